@@ -1,5 +1,5 @@
 -- The answer that twenty words say, and that an answer's own words say it.
-use Rattle.std.specs.Prelude.{if◌then◌else◌}
+use Rattle.std.specs.Prelude.{if◌then◌else◌, None, Option, Some}
 use Prim.Native.Nat.{ℕ, zero, suc, ◌+◌, ◌*◌}
 use native.Mathlib.Omega.{arith}
 use mathlib.Core.Path.{◌≡◌, refl, sym, ap, ◌∙◌}
@@ -7,13 +7,11 @@ use mathlib.Core.List.{List, [], ◌∷◌}
 use lib.Dec.{eqb}
 use lib.IntN.{ℤ}
 use lib.ListN.{length, get_or, take, drop}
+use Rattle.rules.specs.declared.Steps.{Steps}
+use Rattle.rules.specs.declared.Millis.{Millis}
 use Rattle.rules.specs.declared.CellView.{CellView}
 use Rattle.rules.specs.declared.Preview.{Preview}
 use Rattle.rules.specs.declared.Report.{Report}
-use Rattle.rules.specs.declared.Quote.{Quote}
-use Rattle.rules.specs.declared.Quote.TheVariants.{Absent, At}
-use Rattle.rules.specs.declared.Possible.{Possible}
-use Rattle.rules.specs.declared.Possible.TheVariants as P
 use Rattle.rules.specs.declared.LapsesLeft.{LapsesLeft}
 use Rattle.rules.specs.declared.LapsesLeft.TheVariants as L
 use Rattle.rules.specs.declared.Outlook.{Outlook}
@@ -25,8 +23,8 @@ use Rattle.lent.specs.Words.{cell_words}
 use Rattle.lent.proofs.Back.{flag_back, wide_back, cell_of, cell_back}
 use Rattle.answer_words.specs.Words.{quote_flag, quote_word, possible_flag, possible_word, lapses_kind, lapses_word, answer_words, QuoteFits, AnswerFits}
 
-abbrev quote_of : ℕ → ℕ → Quote
-quote_of flag word = if eqb flag 1 then At (steps (signed_of word)) else Absent
+abbrev quote_of : ℕ → ℕ → Option Steps
+quote_of flag word = if eqb flag 1 then Some (steps (signed_of word)) else None
 
 abbrev wide_of : List ℕ → ℕ → ℕ
 wide_of ws i = get_or ws i 0 + 4294967296 * get_or ws (suc i) 0
@@ -60,8 +58,8 @@ report_of ws =
       fee = kopecks (wide_of ws 17);
     }
 
-abbrev possible_of : ℕ → ℕ → Possible
-possible_of flag word = if eqb flag 1 then P.At (millis word) else P.Never
+abbrev possible_of : ℕ → ℕ → Option Millis
+possible_of flag word = if eqb flag 1 then Some (millis word) else None
 
 abbrev lapses_of : ℕ → ℕ → LapsesLeft
 lapses_of kind word = if eqb kind 0 then L.Unlimited else (if eqb kind 1 then L.Over else L.Left word)
@@ -92,13 +90,13 @@ by_kind (suc (suc (suc (suc (suc n))))) ws = accepted (outlook (outlook_of ws))
 abbrev pub answer_in : List ℕ → Outcome Reply
 answer_in ws = by_kind (get_or ws 0 0) ws
 
-quote_back : (q : Quote) → QuoteFits q → quote_of (quote_flag q) (quote_word q) ≡ q
-quote_back Absent h = refl
-quote_back (At p) h = ap (λ (z : ℤ). At (steps z)) (signed_unsigned p.0 h)
+quote_back : (q : Option Steps) → QuoteFits q → quote_of (quote_flag q) (quote_word q) ≡ q
+quote_back None h = refl
+quote_back (Some p) h = ap (λ (z : ℤ). Some (steps z)) (signed_unsigned p.0 h)
 
-possible_back : (p : Possible) → possible_of (possible_flag p) (possible_word p) ≡ p
-possible_back P.Never = refl
-possible_back (P.At m) = refl
+possible_back : (p : Option Millis) → possible_of (possible_flag p) (possible_word p) ≡ p
+possible_back None = refl
+possible_back (Some m) = refl
 
 lapses_back : (l : LapsesLeft) → lapses_of (lapses_kind l) (lapses_word l) ≡ l
 lapses_back L.Unlimited = refl

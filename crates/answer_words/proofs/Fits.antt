@@ -1,5 +1,6 @@
 -- Every answer of the plain book fits its words: after any list of calls its prices are within their type, and it has six failure counts.
 -- So no two answers that the book ever gives have the same words.
+use Rattle.std.proofs.Common.{None, Option, Some}
 use Prim.Native.Nat.{ℕ, zero, suc}
 use native.Mathlib.Omega.{arith}
 use mathlib.Core.Path.{◌≡◌, refl, subst}
@@ -11,8 +12,6 @@ use lib.ListN.{length}
 use borrow.Author.Tests.{leb-true}
 use Rattle.rules.specs.declared.Side.{Side}
 use Rattle.rules.specs.declared.Side.TheVariants.{Buy, Sell}
-use Rattle.rules.specs.declared.Quote.{Quote}
-use Rattle.rules.specs.declared.Quote.TheVariants.{Absent, At}
 use Rattle.rules.specs.declared.Order.{Order}
 use Rattle.rules.specs.declared.Steps.{Steps}
 use Rattle.rules.specs.declared.Row.{Row}
@@ -50,9 +49,9 @@ price_fits (negsuc n) h =
 
 -- a best quote is the price of a live order
 quote-fits : (s : Side) (m : ℕ) (orders : List Order) → ((o : Order) → Memᴰ o orders → good_price o.price.0 ≡ true)
-    → (q : Quote) → Means s m orders q → QuoteFits q
-quote-fits s m orders good Absent h = tt
-quote-fits s m orders good (At p) h =
+    → (q : Option Steps) → Means s m orders q → QuoteFits q
+quote-fits s m orders good None h = tt
+quote-fits s m orders good (Some p) h =
     subst (λ (x : Steps). SignedWord x.0) h.0.3 (price_fits h.0.0.price.0 (good h.0.0 h.0.1))
 
 best-fits : (s : Side) (row : Row) (events : List Event) → EventBounds row events → QuoteFits (best s row.minimum.0 (live events))

@@ -1,11 +1,9 @@
 -- What the plain book answers to a call of the month, as twenty words at fixed places: 0 its kind, 1 the refusal's number or 0, from 2
 -- on what is shown, then zeros. The kinds: 0 accepted, 1 refused, 2 a cell, 3 an ask's quotes and ticket, 4 a report, 5 an outlook. That
 -- no two answers whose numbers fit their types have the same words is in proofs/Back, and that the plain book's always fit in proofs/Fits.
-use Rattle.std.specs.Prelude.{ℕ, ◌≡◌, List, [], ◌∷◌, ◌++◌, length, get_or, replicate}
-use Rattle.rules.specs.declared.Quote.{Quote}
-use Rattle.rules.specs.declared.Quote.TheVariants.{Absent, At}
-use Rattle.rules.specs.declared.Possible.{Possible}
-use Rattle.rules.specs.declared.Possible.TheVariants as P
+use Rattle.std.specs.Prelude.{ℕ, ◌≡◌, List, [], ◌∷◌, ◌++◌, length, get_or, replicate, None, Option, Some}
+use Rattle.rules.specs.declared.Steps.{Steps}
+use Rattle.rules.specs.declared.Millis.{Millis}
 use Rattle.rules.specs.declared.LapsesLeft.{LapsesLeft}
 use Rattle.rules.specs.declared.LapsesLeft.TheVariants as L
 use Rattle.rules.specs.Widths.{SignedWord}
@@ -14,22 +12,22 @@ use Rattle.rules.specs.Answers.{Outcome, accepted, refused, Reply, done, cell, a
 use Rattle.lent.specs.Words.{flag_word, low, high, cell_words}
 
 -- a quote's two words: whether there is one, and its price
-abbrev pub quote_flag : Quote → ℕ
-quote_flag Absent = 0
-quote_flag (At p) = 1
+abbrev pub quote_flag : Option Steps → ℕ
+quote_flag None = 0
+quote_flag (Some p) = 1
 
-abbrev pub quote_word : Quote → ℕ
-quote_word Absent = 0
-quote_word (At p) = unsigned_of p.0
+abbrev pub quote_word : Option Steps → ℕ
+quote_word None = 0
+quote_word (Some p) = unsigned_of p.0
 
 -- a number of milliseconds or a time, where there is one: whether there is, and which
-abbrev pub possible_flag : Possible → ℕ
-possible_flag P.Never = 0
-possible_flag (P.At m) = 1
+abbrev pub possible_flag : Option Millis → ℕ
+possible_flag None = 0
+possible_flag (Some m) = 1
 
-abbrev pub possible_word : Possible → ℕ
-possible_word P.Never = 0
-possible_word (P.At m) = m.0
+abbrev pub possible_word : Option Millis → ℕ
+possible_word None = 0
+possible_word (Some m) = m.0
 
 -- the lapses left: 0 for no limit, 1 over it, 2 and how many
 abbrev pub lapses_kind : LapsesLeft → ℕ
@@ -65,9 +63,9 @@ answer_words (accepted (outlook o)) =
     ∷ lapses_kind o.lapses ∷ lapses_word o.lapses ∷ flag_word o.rest ∷ flag_word o.lost ∷ o.resting ∷ o.keeping ∷ replicate 6 0
 
 -- a quote whose price fits its type
-abbrev pub QuoteFits : Quote → Type 0
-QuoteFits Absent = Unit {0}
-QuoteFits (At p) = SignedWord p.0
+abbrev pub QuoteFits : Option Steps → Type 0
+QuoteFits None = Unit {0}
+QuoteFits (Some p) = SignedWord p.0
 
 -- an answer whose prices and counts fit their types
 abbrev pub AnswerFits : Outcome Reply → Type 0

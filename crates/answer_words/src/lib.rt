@@ -1,48 +1,48 @@
-// The answers to a month's calls in twenty lent words, each at its place (specs/Words).
+// The answers to a month's calls as twenty words, each at its place (specs/Words).
 #![tactic(auto)]
 
 ghost use Rattle.std.specs.Prelude.{◌≡◌, length};
 ghost use Rattle.rules.specs.Answers.{accepted, refused, done, cell, asked, report as reported, outlook as foreseen};
 ghost use Rattle.answer_words.specs.Words.{quote_flag, quote_word, possible_flag, possible_word, lapses_kind, lapses_word, answer_words};
 
-use lent::{flag, high, low};
-use rules::{CellView, LapsesLeft, Outlook, Possible, Preview, Quote, Report};
+use lent::{high, low};
+use rules::{CellView, LapsesLeft, Millis, Outlook, Preview, Report, Steps};
 
 // Whether there is a quote, and the word of its price.
-fn quoted(quote: Quote) -> u32
+fn quoted(quote: Option<Steps>) -> u32
     ensures { result ≡ quote_flag quote }
 {
     match quote {
-        Quote::Absent => 0,
-        Quote::At(_) => 1,
+        None => 0,
+        Some(_) => 1,
     }
 }
 
-fn price_word(quote: Quote) -> u32
+fn price_word(quote: Option<Steps>) -> u32
     ensures { result ≡ quote_word quote }
 {
     match quote {
-        Quote::Absent => 0,
-        Quote::At(p) => words::from_steps(p),
+        None => 0,
+        Some(p) => words::from_steps(p),
     }
 }
 
 // Whether there is a number of milliseconds or a time, and which.
-fn possible(found: Possible) -> u32
+fn possible(found: Option<Millis>) -> u32
     ensures { result ≡ possible_flag found }
 {
     match found {
-        Possible::Never => 0,
-        Possible::At(_) => 1,
+        None => 0,
+        Some(_) => 1,
     }
 }
 
-fn possible_word(found: Possible) -> u32
+fn possible_word(found: Option<Millis>) -> u32
     ensures { result ≡ possible_word found }
 {
     match found {
-        Possible::Never => 0,
-        Possible::At(m) => m.0,
+        None => 0,
+        Some(m) => m.0,
     }
 }
 
@@ -67,37 +67,35 @@ fn lapses_word(left: LapsesLeft) -> u32
     }
 }
 
-pub fn put_accepted(answer: &mut [u32])
-    requires { length answer.old ≡ 20 }
-    ensures { answer.new ≡ answer_words (accepted done) }
+#[tactic(auto, unfolding(crate::specs::Words::answer_words))]
+pub fn accepted_words() -> [u32; 20]
+    ensures { result ≡ answer_words (accepted done) }
 {
-    let twenty = [0u32; 20];
-    lent::copy(&twenty, answer);
+    [0; 20]
 }
 
-pub fn put_refused(number: u32, answer: &mut [u32])
-    requires { length answer.old ≡ 20 }
-    ensures { answer.new ≡ answer_words (refused number) }
+#[tactic(auto, unfolding(crate::specs::Words::answer_words))]
+pub fn refused_words(number: u32) -> [u32; 20]
+    ensures { result ≡ answer_words (refused number) }
 {
-    let twenty = [
+    [
         1, number, 0, 0, 0, 0, 0, 0, 0, 0, 0, 0, 0, 0, 0, 0, 0, 0, 0, 0,
-    ];
-    lent::copy(&twenty, answer);
+    ]
 }
 
-pub fn put_cell(view: CellView, answer: &mut [u32])
-    requires { length answer.old ≡ 20 }
-    ensures { answer.new ≡ answer_words (accepted (cell view)) }
+#[tactic(auto, using(lent::proofs::Back::flag_is), unfolding(crate::specs::Words::answer_words, lent::specs::Words::cell_words))]
+pub fn cell_words(view: CellView) -> [u32; 20]
+    ensures { result ≡ answer_words (accepted (cell view)) }
 {
     let c = view.cell;
     let kept = c.kept;
     let length = c.length;
     let active = c.active;
     let passive = c.passive;
-    let twenty = [
+    [
         2,
         0,
-        flag(c.filled),
+        u32::from(c.filled),
         kept.0,
         length.0,
         c.share,
@@ -107,7 +105,7 @@ pub fn put_cell(view: CellView, answer: &mut [u32])
         high(active.0),
         low(passive.0),
         high(passive.0),
-        flag(view.met),
+        u32::from(view.met),
         view.weight,
         0,
         0,
@@ -115,13 +113,12 @@ pub fn put_cell(view: CellView, answer: &mut [u32])
         0,
         0,
         0,
-    ];
-    lent::copy(&twenty, answer);
+    ]
 }
 
-pub fn put_asked(preview: Preview, answer: &mut [u32])
-    requires { length answer.old ≡ 20 }
-    ensures { answer.new ≡ answer_words (accepted (asked preview)) }
+#[tactic(auto, unfolding(crate::specs::Words::answer_words))]
+pub fn asked_words(preview: Preview) -> [u32; 20]
+    ensures { result ≡ answer_words (accepted (asked preview)) }
 {
     let bid = preview.bid;
     let ask = preview.ask;
@@ -131,7 +128,7 @@ pub fn put_asked(preview: Preview, answer: &mut [u32])
     let price = a.price;
     let volume = a.volume;
     let count = ticket.count;
-    let twenty = [
+    [
         3,
         0,
         quoted(bid),
@@ -152,13 +149,12 @@ pub fn put_asked(preview: Preview, answer: &mut [u32])
         0,
         0,
         0,
-    ];
-    lent::copy(&twenty, answer);
+    ]
 }
 
-pub fn put_report(report: Report, answer: &mut [u32])
-    requires { length answer.old ≡ 20 }
-    ensures { answer.new ≡ answer_words (accepted (reported report)) }
+#[tactic(auto, using(lent::proofs::Back::flag_is), unfolding(crate::specs::Words::answer_words))]
+pub fn report_words(report: Report) -> [u32; 20]
+    ensures { result ≡ answer_words (accepted (reported report)) }
 {
     let time = report.time;
     let bid = report.bid;
@@ -166,10 +162,10 @@ pub fn put_report(report: Report, answer: &mut [u32])
     let kept = report.kept;
     let f = report.failures;
     let fee = report.fee;
-    let twenty = [
+    [
         4,
         0,
-        flag(report.running),
+        u32::from(report.running),
         time.0,
         report.orders,
         quoted(bid),
@@ -187,20 +183,19 @@ pub fn put_report(report: Report, answer: &mut [u32])
         low(fee.0),
         high(fee.0),
         0,
-    ];
-    lent::copy(&twenty, answer);
+    ]
 }
 
-pub fn put_outlook(outlook: Outlook, answer: &mut [u32])
-    requires { length answer.old ≡ 20 }
-    ensures { answer.new ≡ answer_words (accepted (foreseen outlook)) }
+#[tactic(auto, using(lent::proofs::Back::flag_is), unfolding(crate::specs::Words::answer_words))]
+pub fn outlook_words(outlook: Outlook) -> [u32; 20]
+    ensures { result ≡ answer_words (accepted (foreseen outlook)) }
 {
     let need = outlook.need;
     let left = outlook.left;
     let by = outlook.by;
     let full = outlook.full;
     let lapses = outlook.lapses;
-    let twenty = [
+    [
         5,
         0,
         need.0,
@@ -211,8 +206,8 @@ pub fn put_outlook(outlook: Outlook, answer: &mut [u32])
         possible_word(full),
         lapses_kind(lapses),
         lapses_word(lapses),
-        flag(outlook.rest),
-        flag(outlook.lost),
+        u32::from(outlook.rest),
+        u32::from(outlook.lost),
         outlook.resting,
         outlook.keeping,
         0,
@@ -221,6 +216,49 @@ pub fn put_outlook(outlook: Outlook, answer: &mut [u32])
         0,
         0,
         0,
-    ];
-    lent::copy(&twenty, answer);
+    ]
+}
+
+// ---- the same into lent words, for the crates that still call these
+
+pub fn put_accepted(answer: &mut [u32])
+    requires { length answer.old ≡ 20 }
+    ensures { answer.new ≡ answer_words (accepted done) }
+{
+    answer.copy_from_slice(&accepted_words());
+}
+
+pub fn put_refused(number: u32, answer: &mut [u32])
+    requires { length answer.old ≡ 20 }
+    ensures { answer.new ≡ answer_words (refused number) }
+{
+    answer.copy_from_slice(&refused_words(number));
+}
+
+pub fn put_cell(view: CellView, answer: &mut [u32])
+    requires { length answer.old ≡ 20 }
+    ensures { answer.new ≡ answer_words (accepted (cell view)) }
+{
+    answer.copy_from_slice(&cell_words(view));
+}
+
+pub fn put_asked(preview: Preview, answer: &mut [u32])
+    requires { length answer.old ≡ 20 }
+    ensures { answer.new ≡ answer_words (accepted (asked preview)) }
+{
+    answer.copy_from_slice(&asked_words(preview));
+}
+
+pub fn put_report(report: Report, answer: &mut [u32])
+    requires { length answer.old ≡ 20 }
+    ensures { answer.new ≡ answer_words (accepted (reported report)) }
+{
+    answer.copy_from_slice(&report_words(report));
+}
+
+pub fn put_outlook(outlook: Outlook, answer: &mut [u32])
+    requires { length answer.old ≡ 20 }
+    ensures { answer.new ≡ answer_words (accepted (foreseen outlook)) }
+{
+    answer.copy_from_slice(&outlook_words(outlook));
 }

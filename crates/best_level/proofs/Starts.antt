@@ -1,5 +1,5 @@
 -- Guesses, what the search starts from after them, and what it finds.
-use Rattle.std.specs.Prelude.{if◌then◌else◌}
+use Rattle.std.specs.Prelude.{if◌then◌else◌, Some}
 use Prim.Native.Nat.{ℕ, suc, ◌+◌, ◌-◌, ◌≤◌, ◌<◌}
 use native.Mathlib.Omega.{arith}
 use mathlib.Core.Path.{◌≡◌, refl, sym, ap, ◌∙◌, subst}
@@ -12,7 +12,6 @@ use lib.ListN.{length, get_or}
 use lib.Seq.{take-length}
 use Rattle.rules.specs.declared.Side.{Side}
 use Rattle.rules.specs.declared.Steps.{Steps as Price}
-use Rattle.rules.specs.declared.Quote.TheVariants.{At}
 use Rattle.lists.specs.Lists.{filter}
 use Rattle.rules.specs.Units.{good_price}
 use Rattle.lists.proofs.Lists.{both}
@@ -22,7 +21,7 @@ use Rattle.price_keys.specs.Keys.{quote_key, quote_at}
 use Rattle.best_quote.specs.Levels.{held, enough, greatest, found_by, best_key, level_at, level_of, is_best, Searchable}
 use Rattle.best_quote.specs.Searches.{SearchFinds}
 use Rattle.best_quote.specs.Sums.{found_with, key_sums}
-use Rattle.price_keys.proofs.Keys.{key-quote, good_quote, say_good}
+use Rattle.price_keys.proofs.Keys.{key-quote, good_quote, GoodQuote}
 use Rattle.best_quote.proofs.Levels.{held-le, level_split, level_best, start_below, found-end}
 use Rattle.order_side.specs.Slots.{Slot, keys_of, volumes_of, level_in, best_key_in, GoodSlots}
 use Rattle.best_level.proofs.Parts.{keys_most}
@@ -357,8 +356,8 @@ module _ (side : Side) (ks vs : List ℕ) (start minimum : ℕ) (s : Searchable 
       rw (take-length ks) (omega (arith, s.start_most, greatest_most 2000000001 (enough minimum ks vs) ks s.keys))
 
   -- a price in its range ..
-  pub found_good : (p : Price) → r.quote ≡ At p → good_price p.0 ≡ true
-  found_good p e = say_good (quote_at side key) (good_quote side key found_most) p (sym f.found ∙ e)
+  pub found_good : GoodQuote r.quote
+  found_good = subst GoodQuote (sym f.found) (good_quote side key found_most)
 
   -- .. whose level is the best one
   module _ (o : Open minimum ks vs start) (some : 1 ≤ minimum) where

@@ -1,6 +1,6 @@
 -- The best quote of some orders is that of the best key in their columns, and what the search finds and counts in the columns is what
 -- document 02 says of the orders.
-use Rattle.std.specs.Prelude.{if◌then◌else◌}
+use Rattle.std.specs.Prelude.{if◌then◌else◌, Some}
 use Prim.Native.Nat.{ℕ, ◌+◌, ◌≤◌, max}
 use native.Mathlib.Omega.{arith}
 use mathlib.Core.Path.{◌≡◌, refl, sym, ap, ◌∙◌}
@@ -14,7 +14,6 @@ use lib.IntN.{ℤ}
 use lib.ListN.{length, replicate, length-map}
 use lib.Seq.{take-length}
 use Rattle.rules.specs.declared.Side.{Side}
-use Rattle.rules.specs.declared.Quote.TheVariants.{At}
 use Rattle.rules.specs.declared.Order.{Order}
 use Rattle.lists.specs.Lists.{filter, any}
 use Rattle.rules.specs.Units.{good_price}
@@ -87,7 +86,7 @@ lead-key s [] h = refl
 lead-key s (x ∷ xs) h =
     let g = h x (Memᴰ.head refl) in
     let tail : Good xs = λ o m. h o (Memᴰ.tail m) in
-    rw (← quote-key s (At x.price) g, lead-key s xs tail)
+    rw (← quote-key s (Some x.price) g, lead-key s xs tail)
     (better-at s (key_in s x) (greatest (map (key_in s) xs)) (key_most s x.price.0 g) (greatest_most s xs tail))
 
 -- the best key of orders' columns

@@ -45,6 +45,11 @@ module _ (t : ℕ → Bool) (i : ℕ) (ks vs : List ℕ) (h s : ℕ) (more : i <
   held_fits =
       omega (arith, held_next, held-part t (i + 1) ks vs, held_most t ks vs)
 
+-- a pair of key and volume, by its place
+pub volume_where-at : (t : ℕ → Bool) (i : ℕ) (ks vs : List ℕ) {k v s : ℕ} → k ≡ get_or ks i 0 → v ≡ get_or vs i 0
+    → s ≡ (if t k then v else 0) → s ≡ (if t (get_or ks i 0) then get_or vs i 0 else 0)
+volume_where-at t i ks vs e f g = g ∙ (λ j. if t (e j) then f j else 0)
+
 -- over all of them
 pub held_all : (t : ℕ → Bool) (i : ℕ) (ks vs : List ℕ) (h : ℕ) → i ≡ length ks → length ks ≡ length vs
     → h ≡ held t (take i ks) (take i vs) → h ≡ held t ks vs

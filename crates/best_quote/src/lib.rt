@@ -9,9 +9,9 @@ ghost use Rattle.std.specs.Prelude.{◌≡◌, ◌+◌, ◌≤◌, eqb, if◌the
 ghost use Rattle.best_quote.specs.Levels.{held, level_at, is_best, Columns, Searchable};
 ghost use Rattle.best_quote.specs.Searches.{SearchFinds};
 
-use rules::{Contracts, Quote, Side};
+use rules::{Contracts, Side, Steps};
 
-// A price level: its key, the contracts at better keys, and at it.
+// A price level: its key, the contracts at better keys, and at it. Key 0 is no price: `level_at` and `best_key` are defined with it.
 #[derive(Clone, Copy)]
 pub struct Level {
     pub key: u32,
@@ -22,7 +22,7 @@ pub struct Level {
 // What a search finds, the contracts at better prices, those at it or better, and for how many orders it added up volumes.
 #[derive(Clone, Copy)]
 pub struct Searched {
-    pub quote: Quote,
+    pub quote: Option<Steps>,
     pub before: u32,
     pub depth: u32,
     pub sums: u32,
@@ -37,16 +37,14 @@ pub fn volume_where(counts: bool, volume: u32) -> u32
     (counts as u32) * volume
 }
 
-// The contracts at a key.
+// The contracts at a key. The columns go by one index here and in `measured`: a `zip` of the two needs lemmas on pairs and is no plainer.
 pub fn held_at(keys: &[u32], volumes: &[u32], key: u32) -> u32
     requires { Columns keys.now volumes.now }
     ensures { result ≡ held (eqb key) keys.now volumes.now }
 {
     let mut at: u32 = 0;
-    let mut i: usize = 0;
-    while i < keys.len() {
+    for i in 0..keys.len() {
         at = numbers::sum(at, volume_where(key == keys[i], volumes[i]));
-        i += 1;
     }
     at
 }
@@ -58,13 +56,11 @@ pub fn measured(keys: &[u32], volumes: &[u32], key: u32) -> Level
 {
     let mut before: u32 = 0;
     let mut at: u32 = 0;
-    let mut i: usize = 0;
-    while i < keys.len() {
+    for i in 0..keys.len() {
         let k = keys[i];
         let v = volumes[i];
         before = numbers::sum(before, volume_where(key < k, v));
         at = numbers::sum(at, volume_where(key == k, v));
-        i += 1;
     }
     Level { key, before, at }
 }
@@ -81,7 +77,8 @@ pub fn is_best(level: Level, minimum: Contracts) -> bool
 // The best quote of a side, from a key that it is better than or that is it: the best price of an order for which those at that
 // price or better hold `minimum` contracts or more together. Volumes are added up for an order only if its price is better than
 // every one already found to qualify. The sums that were too small are those of all better prices than what is found, so the most
-// of them is what is before it, and nothing is added up again for it.
+// of them is what is before it, and nothing is added up again for it. Document 01 names the form of the loops: labelled and nested, over the
+// orders and their volumes, the price yielded by break.
 pub fn search(side: Side, keys: &[u32], volumes: &[u32], start: u32, minimum: Contracts) -> Searched
     requires { Searchable keys.now volumes.now start }
     ensures { SearchFinds side keys.now volumes.now start minimum.0 result }
@@ -113,7 +110,7 @@ pub fn search(side: Side, keys: &[u32], volumes: &[u32], start: u32, minimum: Co
                 found = key;
                 enough = depth;
             } else {
-                short = numbers::max(short, depth);
+                short = short.max(depth);
             }
         }
     };

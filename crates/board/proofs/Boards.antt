@@ -4,9 +4,8 @@ use native.Mathlib.Omega.{arith}
 use native.Mathlib.Nat.{mul-le-mul}
 use mathlib.Core.Path.{◌≡◌, refl, sym, ap, ◌∙◌}
 use mathlib.Core.List.{List, [], ◌∷◌}
-use mathlib.Core.Bool.{Bool, true, false, true≢false, ◌&&◌, and-true, and-false}
-use borrow.Author.Tests.{le-leb, lt-leb}
-use lib.Dec.{leb, ltb, eqb}
+use mathlib.Core.Bool.{Bool, true, false, ◌&&◌}
+use lib.Dec.{eqb}
 use lib.ListN.{length, get_or}
 use Rattle.lists.specs.Lists.{within, every}
 use Rattle.rules.specs.Rows.{good_length}
@@ -15,20 +14,12 @@ use Rattle.rules.specs.Causes.{first_number}
 use Rattle.rules.specs.Boards.{length_in, board_length, good_quantum_of, good_board, reaches, board_met, judged}
 use Rattle.lists.proofs.Lists.{both}
 use Rattle.rules.proofs.Refusals.{within-parts}
-use Rattle.rules.proofs.Answers.{not_refused}
-use Rattle.board.specs.declared.BoardAnswer.{BoardAnswer}
-use Rattle.board.specs.declared.BoardAnswer.TheVariants.{Met, Failed, Refused}
+use Rattle.std.specs.Prelude.{Result, Ok, Err}
+use Rattle.rules.specs.declared.Refusal.{Refusal}
+use Rattle.rules.proofs.Answers.{not_refused, number-names}
 use Rattle.board.specs.Answers.{shown_board}
 use Rattle.board.specs.Internal.{numbers_good, shares_met}
 use Rattle.board.proofs.Fronts.{every_is}
-
--- ---- the number of strikes
-
-pub size-over : (n : ℕ) → 32 < n → false ≡ within 1 32 n
-size-over n e = rw (lt-leb n 32 e) (sym (and-false (leb 1 n)))
-
-pub size_by_lem : (n : ℕ) → n ≤ 32 → ltb 0 n ≡ within 1 32 n
-size_by_lem n e = rw (le-leb n 32 e) (sym (and-true (leb 1 n)))
 
 -- ---- a share of a length fits
 
@@ -63,7 +54,7 @@ module _ (first second : ℕ) (strikes : List (List ℕ)) (size : Bool) (s : siz
   pub size_bounds : size ≡ true → (1 ≤ length strikes) × (length strikes ≤ 32)
   size_bounds e = within-parts 1 32 (length strikes) (sym s ∙ e)
 
-  -- and by that of the numbers
+  -- and by that of the numbers, l being the first strike's
   module _ (sized : size ≡ true) (l : ℕ) (e : l ≡ length_in (get_or strikes 0 [])) (good : Bool)
       (g : good ≡ numbers_good l first second strikes) where
     length_is : board_length strikes ≡ l
@@ -91,21 +82,20 @@ module _ (first second : ℕ) (strikes : List (List ℕ)) (size : Bool) (s : siz
           second_most = (within-parts 1 100 second shares.1).1;
         }
 
-    pub answered : good ≡ true → (met t : Bool) → met ≡ shares_met l first second strikes → met ≡ t
-        → accepted t ≡ judged first second strikes
+    pub answered : good ≡ true → (met : Bool) → met ≡ shares_met l first second strikes → accepted met ≡ judged first second strikes
     unfolding judged first_number board_met
-    answered f met t m h = rw (good_is ∙ f, length_is) (ap accepted (sym h ∙ m ∙ rw (every_is (reaches first l) strikes) refl))
+    answered f met m = rw (good_is ∙ f, length_is) (ap accepted (m ∙ rw (every_is (reaches first l) strikes) refl))
+
+-- ---- two different answers never show the same
 
 same-verdict : (a b : Bool) → ◌≡◌ {A = Outcome Bool} (accepted a) (accepted b) → a ≡ b
 same-verdict a b e = cc
 
-pub board_shown : (a b : BoardAnswer) → shown_board a ≡ shown_board b → a ≡ b
-board_shown Met Met e = refl
-board_shown Met Failed e = absurd (true≢false (same-verdict true false e))
-board_shown Met Refused e = absurd (not_refused _ _ e)
-board_shown Failed Met e = absurd (true≢false (sym (same-verdict false true e)))
-board_shown Failed Failed e = refl
-board_shown Failed Refused e = absurd (not_refused _ _ e)
-board_shown Refused Met e = absurd (not_refused _ _ (sym e))
-board_shown Refused Failed e = absurd (not_refused _ _ (sym e))
-board_shown Refused Refused e = refl
+same-number : (m n : ℕ) → ◌≡◌ {A = Outcome Bool} (refused m) (refused n) → m ≡ n
+same-number m n e = cc
+
+pub board_shown : (a b : Result Bool Refusal) → shown_board a ≡ shown_board b → a ≡ b
+board_shown (Ok a) (Ok b) e = ap Ok (same-verdict a b e)
+board_shown (Ok a) (Err s) e = absurd (not_refused _ _ e)
+board_shown (Err r) (Ok b) e = absurd (not_refused _ _ (sym e))
+board_shown (Err r) (Err s) e = ap Err (number-names r s (same-number _ _ e))

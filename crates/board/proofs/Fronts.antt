@@ -1,20 +1,22 @@
--- A test of every element, and a sum, along the front of a list.
-use Prim.Native.Nat.{ℕ, ◌+◌, ◌<◌}
+-- A test of every element and a sum: what the library's chains give, as the definitions say it.
+use Prim.Native.Nat.{ℕ, ◌*◌}
 use native.Mathlib.Omega.{arith}
-use native.Mathlib.Numerals.{add-one}
-use mathlib.Core.Path.{◌≡◌, refl, sym, ap, ◌∙◌}
-use mathlib.Core.List.{List, [], ◌∷◌, ◌++◌, map, map-append}
-use mathlib.Core.Bool.{Bool, true, false, not, ◌&&◌, ◌||◌, and_assoc, and-true}
-use lib.ListN.{length, take, get_or}
-use lib.Seq.{take-suc, take-length}
+use mathlib.Core.Path.{◌≡◌, refl}
+use mathlib.Core.List.{List, [], ◌∷◌, map}
+use mathlib.Core.Bool.{Bool, true, false, not, ◌&&◌, ◌||◌}
+use Rattle.std.specs.Bool.{Decides}
+use Rattle.std.specs.List.{All, sum_by}
+use Rattle.std.proofs.lemmas.Bool.Decides.{same_from_decides, Decides-by_and}
+use Rattle.std.proofs.lemmas.List.Recursion.{is_sum_by}
 use Rattle.lists.specs.Lists.{sum, any, every}
-use Rattle.lists.proofs.Lists.{sum-append}
 
 module _ {A : Type 0} (p : A → Bool) where
-  every-snoc : (xs : List A) (y : A) → every p (xs ++ (y ∷ [])) ≡ every p xs && p y
+  -- what `all` answers
+  pub every-all : (xs : List A) (r : Bool) → Decides r (All (λ x. p x ≡ true) xs) → r ≡ every p xs
   unfolding every
-  every-snoc [] y = and-true (p y)
-  every-snoc (x ∷ xs) y = ap (λ (b : Bool). p x && b) (every-snoc xs y) ∙ sym (and_assoc (p x) (every p xs) (p y))
+  every-all xs r h =
+      same_from_decides r (every p xs) h
+      (Decides-by_and p (λ x. p x ≡ true) (every p) (λ x. ((λ e. e), (λ e. e))) refl (λ _ _. refl) xs)
 
   -- as the definition of a board says it: none fails
   pub every_is : (xs : List A) → every p xs ≡ not (any (λ x. not (p x)) xs)
@@ -26,32 +28,13 @@ module _ {A : Type 0} (p : A → Bool) where
       go true e = e
       go false e = refl
 
-module _ {A : Type 0} (xs : List A) (i : ℕ) (d : A) (h : i < length xs) where
-  front : take (i + 1) xs ≡ take i xs ++ (get_or xs i d ∷ [])
-  front = ap (λ (n : ℕ). take n xs) (add-one i) ∙ take-suc xs i d h
+-- what `sum` answers
+pub sum-sum_by : (xs : List ℕ) → sum xs ≡ sum_by (λ x. x) xs
+unfolding sum
+sum-sum_by xs = is_sum_by sum (λ x. x) refl (λ _ _. refl) xs
 
-  -- one element more passes or does not
-  pub every-next : (p : A → Bool) (b t r : Bool) → b ≡ every p (take i xs) → t ≡ p (get_or xs i d) → r ≡ b && t
-      → r ≡ every p (take (i + 1) xs)
-  every-next p b t r e f g = g ∙ rw (e, f) (sym (ap (every p) front ∙ every-snoc p (take i xs) (get_or xs i d)))
-
-  pub sum-next : (f : A → ℕ) → sum (map f (take (i + 1) xs)) ≡ sum (map f (take i xs)) + f (get_or xs i d)
-  unfolding sum
-  sum-next f =
-      ap (λ (l : List A). sum (map f l)) front
-      ∙ ap sum (map-append f (take i xs) (get_or xs i d ∷ []))
-      ∙ sum-append (map f (take i xs)) (f (get_or xs i d) ∷ [])
-      ∙ omega arith
-
-module _ {A : Type 0} (xs : List A) where
-  pub every-none : (p : A → Bool) → true ≡ every p (take 0 xs)
-  unfolding every
-  every-none p = refl
-
-  pub sum-none : (f : A → ℕ) → 0 ≡ sum (map f (take 0 xs))
-  unfolding sum
-  sum-none f = refl
-
-  -- all of them
-  pub whole : (i : ℕ) → i ≡ length xs → take i xs ≡ xs
-  whole i e = ap (λ (n : ℕ). take n xs) e ∙ take-length xs
+-- a hundred times each is a hundred times their sum
+pub sum-hundredfold : {A : Type 0} (f : A → ℕ) (xs : List A) → sum (map (λ x. 100 * f x) xs) ≡ 100 * sum (map f xs)
+unfolding sum
+sum-hundredfold f [] = refl
+sum-hundredfold f (x ∷ xs) = omega (arith, sum-hundredfold f xs)

@@ -1,10 +1,7 @@
--- The number and values of a board's answer.
-use Rattle.std.specs.Prelude.{Bool, true, false}
-use Rattle.rules.specs.Answers.{Outcome, accepted, refused}
-use Rattle.board.specs.declared.BoardAnswer.{BoardAnswer}
-use Rattle.board.specs.declared.BoardAnswer.TheVariants.{Met, Failed, Refused}
+-- What a board's answer shows: whether it is met, or the refusal's number.
+use Rattle.std.specs.Prelude.{Bool, Result}
+use Rattle.rules.specs.declared.Refusal.{Refusal}
+use Rattle.rules.specs.Answers.{Outcome, shown}
 
-abbrev pub shown_board : BoardAnswer → Outcome Bool
-shown_board Met = accepted true
-shown_board Failed = accepted false
-shown_board Refused = refused 18
+abbrev pub shown_board : Result Bool Refusal → Outcome Bool
+shown_board = shown (λ met. met)

@@ -30,11 +30,10 @@ use Rattle.order_side.specs.Slots.{Slot, blank_slot, slot_of, side_of, kept_in, 
 use Rattle.order_side.specs.Internal.{Changed, Sized, HasOrder, Added, OrderReplaced, Removed, Grows}
 use Rattle.order_side.proofs.Words.{words_length, count_is}
 use Rattle.order_side.proofs.Changes.{changed_added, changed_amended, changed-removed, GoodSlot, good_added, good_amended, good_removed, grows_none, grows_added, grows_amended, grows_removed}
-use Rattle.book.specs.declared.Answer.{Answer}
 use Rattle.order_table.specs.Table.{of_side, slots_in, side_in, table_of, slot_in, GoodOrders}
 use Rattle.book.specs.Events.{id_of, side_for, changed_by, sent_to}
 use Rattle.order_table.specs.Internal.{side_at, other, Numbers, blank_order, order_in, joined, Represents, Placed}
-use Rattle.book.specs.Internal.{order_with, add_of, applied_to, answer, no_change, Applied}
+use Rattle.book.specs.Internal.{order_with, add_of, applied_to, Answer, answer, no_change, Applied}
 use Rattle.book.proofs.Sides.{names}
 use Rattle.order_table.proofs.Slots.{Has, position}
 use Rattle.order_table.proofs.Table.{joined_length, joined_at, half_length, part_is, put_is, part_sized, part_count}

@@ -11,7 +11,9 @@ use Rattle.rules.specs.declared.Event.{Event}
 use Rattle.rules.specs.declared.Row.{Row}
 use Rattle.rules.specs.declared.SpreadRule.{SpreadRule}
 use Rattle.rules.specs.Orders.{has_id, apply}
-use Rattle.rules.specs.Answers.{Outcome, accepted, refused}
+use Rattle.rules.specs.declared.Refusal.{Refusal}
+use Rattle.rules.specs.declared.Refusal.TheVariants.{RowNotSevenWords, RowWordOutOfRange, ArgumentOutOfRange, CellFilled, CellBlank, QuantumOpen, NoQuantumOpen, TimeBackwards, TimePastEnd, IdLive, IdNotLive, PriceOrVolumeOutOfRange, TooManyOrders, DealAboveLeft, BadRecord, BufferShort, LapseLimitOutOfRange, StrikesOutOfRange, WrongTicket, FrameWrong, FieldWrong}
+use Rattle.rules.specs.Answers.{number_of, Outcome, accepted, refused}
 use Rattle.rules.specs.Kept.{orders_keep}
 use Rattle.price_keys.specs.Widest.{WidestFor}
 use Rattle.rules.specs.declared.Side.{Side}
@@ -28,12 +30,11 @@ use Rattle.best_level.specs.Requotes.{sums_in, Requotes}
 use Rattle.best_level.proofs.Candidates.{candidate_sums}
 use Rattle.order_side.specs.Internal.{StaleLevel}
 use Rattle.order_side.proofs.Words.{words_length}
-use Rattle.book.specs.declared.Answer.{Answer}
 use Rattle.order_table.specs.Table.{of_side, slots_in, side_in, table_of, GoodOrders}
 use Rattle.book.specs.Events.{id_of, changed_by, sent_to}
 use Rattle.book.specs.EventAnswered.{sums_between, FieldsAnswered}
 use Rattle.order_table.specs.Internal.{side_at, other, joined}
-use Rattle.book.specs.Internal.{applied_to, answer, no_change, Applied, AppliedRead, keeps_by}
+use Rattle.book.specs.Internal.{applied_to, Answer, answer, no_change, Applied, AppliedRead, keeps_by}
 use Rattle.order_table.proofs.Table.{joined-part, joined-put}
 use Rattle.order_table.proofs.Orders.{good_slots}
 use Rattle.order_table.proofs.Quotes.{keeps_is, same_keeps, slots_orders}
@@ -195,6 +196,30 @@ read_moving (refused n) minimum live good entry mid r t fifteen z = absurd (not_
 refused_stays : (n : ℕ) (live : List Order) (e : Event) → 0 < n → sent_to n live e ≡ live
 refused_stays zero live e h = absurd (omega arith)
 refused_stays (suc n) live e h = refl
+
+-- each refusal has a number above 0
+pub refusal_some : (r : Refusal) → 0 < number_of r
+refusal_some RowNotSevenWords = omega arith
+refusal_some RowWordOutOfRange = omega arith
+refusal_some ArgumentOutOfRange = omega arith
+refusal_some CellFilled = omega arith
+refusal_some CellBlank = omega arith
+refusal_some QuantumOpen = omega arith
+refusal_some NoQuantumOpen = omega arith
+refusal_some TimeBackwards = omega arith
+refusal_some TimePastEnd = omega arith
+refusal_some IdLive = omega arith
+refusal_some IdNotLive = omega arith
+refusal_some PriceOrVolumeOutOfRange = omega arith
+refusal_some TooManyOrders = omega arith
+refusal_some DealAboveLeft = omega arith
+refusal_some BadRecord = omega arith
+refusal_some BufferShort = omega arith
+refusal_some LapseLimitOutOfRange = omega arith
+refusal_some StrikesOutOfRange = omega arith
+refusal_some WrongTicket = omega arith
+refusal_some FrameWrong = omega arith
+refusal_some FieldWrong = omega arith
 
 pub refused_sends : (o : Outcome Event) (minimum widest keeping : ℕ) (entry mid : List ℕ) (r : Answer) → Told o minimum entry mid r
     → (live : List Order) → GoodOrders live → entry ≡ table_of minimum live → 0 < r.refusal

@@ -13,9 +13,8 @@ use Rattle.rules.proofs.Bounds.{event_bounds_none, event_bounds_more}
 use Rattle.rules.proofs.Refusals.{passed}
 use Rattle.record.specs.declared.Fields.{Fields}
 use Rattle.record.specs.Fields.{read_fields}
-use Rattle.book.specs.declared.Sent.{Sent}
 use Rattle.order_table.specs.Table.{table_of, GoodOrders}
-use Rattle.book.specs.EventAnswered.{sums_between, EventAnswered, FieldsAnswered}
+use Rattle.book.specs.EventAnswered.{Sent, sums_between, EventAnswered, FieldsAnswered}
 use Rattle.book.specs.Searching.{AcceptedAfter, Accepted, next_sums}
 
 bounds_after : (row : Row) (before events : List Event) → EventBounds row before → AcceptedAfter row before events → EventBounds row (before ++ events)

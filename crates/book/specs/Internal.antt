@@ -1,5 +1,5 @@
 -- What the functions of the events promise to each other.
-use Rattle.std.specs.Prelude.{ℕ, ◌<◌, ◌≡◌, List, false, get_or, if◌then◌else◌}
+use Rattle.std.specs.Prelude.{Ok, Err, ℕ, ◌<◌, ◌≡◌, List, false, get_or, if◌then◌else◌}
 use Rattle.rules.specs.declared.Millis.{Millis}
 use Rattle.rules.specs.declared.Steps.{Steps}
 use Rattle.rules.specs.declared.Contracts.{Contracts}
@@ -9,7 +9,8 @@ use Rattle.rules.specs.declared.Event.TheVariants.{Add}
 use Rattle.rules.specs.Orders.{apply}
 use Rattle.rules.specs.Causes.{first_number, trader_causes}
 use Rattle.lists.specs.Lists.{within}
-use Rattle.rules.specs.Answers.{Outcome, accepted, refused}
+use Rattle.rules.specs.declared.Refusal.{Refusal}
+use Rattle.rules.specs.Answers.{Outcome, accepted, refused, number_of}
 use Rattle.words.specs.Sides.{side_by}
 use Rattle.record.specs.declared.Fields.{Fields}
 use Rattle.price_keys.specs.Widest.{keys_keep}
@@ -19,7 +20,8 @@ use Rattle.order_side.specs.Internal.{change, Changed, Grows}
 use Rattle.best_level.specs.CandidateKeys.{changed_key}
 use Rattle.order_table.specs.Table.{of_side, slots_in, side_in}
 use Rattle.order_table.specs.Internal.{side_at, other, joined}
-use Rattle.book.specs.declared.Answer.{Answer}
+use Rattle.std.specs.declared.result.Result.{Result}
+use Rattle.book.specs.declared.OnSide.{OnSide}
 use Rattle.book.specs.Events.{side_for, changed_by, sent_to}
 
 -- ---- orders
@@ -53,11 +55,22 @@ applied_to s minimum before after =
 abbrev pub keeps_by : ℕ → List ℕ → ℕ
 keeps_by widest table = if keys_keep widest (get_or table 193 0) (get_or table 449 0) then 1 else 0
 
+-- an answer to an event: the refusal's number; or 0, and what changes on which side, buys 0 and sells 1
+pub record Answer : Type 0 where
+  pub refusal : ℕ
+  pub s : ℕ
+  pub change : Change
+
 abbrev pub answer : ℕ → ℕ → Change → Answer
 answer refusal s change = record { refusal = refusal; s = s; change = change }
 
 abbrev pub no_change : Change
 no_change = change 0 0 0 0
+
+-- the answer that the code gives
+abbrev pub answered : Result OnSide Refusal → Answer
+answered (Ok on) = answer 0 on.s on.change
+answered (Err refusal) = answer (number_of refusal) 0 no_change
 
 -- what an event answers and leaves: the refusal, the table, and what changes on its side
 pub record Applied (e : Event) (minimum : ℕ) (live : List Order) (exit : List ℕ) (r : Answer) : Type 0 where

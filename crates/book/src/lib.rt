@@ -2,7 +2,7 @@
 // nothing.
 #![tactic(auto)]
 
-ghost use Rattle.std.specs.Prelude.{◌≡◌, List, ◌&&◌, ℕ, ◌<◌, length, if◌then◌else◌};
+ghost use Rattle.std.specs.Prelude.{◌≡◌, List, ◌&&◌, ℕ, length, OnErr, if◌then◌else◌};
 ghost use Rattle.rules.specs.declared.Order.{Order};
 ghost use Rattle.rules.specs.declared.Millis.{Millis};
 ghost use Rattle.rules.specs.declared.Event.TheVariants.{Amend, Cancel, Deal};
@@ -11,45 +11,18 @@ ghost use Rattle.rules.specs.Units.{good_price, good_volume};
 ghost use Rattle.order_table.specs.Table.{slot_in, Held, Holding};
 ghost use Rattle.order_table.specs.Internal.{Represents, Located};
 ghost use Rattle.record.specs.Fields.{read_fields};
-ghost use Rattle.book.specs.EventAnswered.{FieldsAnswered};
-ghost use Rattle.book.specs.Internal.{add_of, order_with, order_by, Lessens, answer, no_change, Applied, AppliedRead, keeps_by};
+ghost use Rattle.book.specs.EventAnswered.{FieldsAnswered, sent_by};
+ghost use Rattle.book.specs.Internal.{add_of, order_with, order_by, Lessens, answered, Applied, AppliedRead, keeps_by};
 
-use numbers::both;
 use order_side::{BEST, COUNT, Change, WORDS};
 use record::Fields;
-use rules::{Contracts, Order, Steps};
+use rules::{Contracts, Order, Refusal, Steps};
 
-// The answer to an event: the refusal's number; or 0, and what changes on which side, buys 0 and sells 1.
+// What an accepted event changes on a side, buys 0 and sells 1.
 #[derive(Clone, Copy)]
-struct Answer {
-    refusal: u32,
+struct OnSide {
     s: usize,
     change: Change,
-}
-
-fn refused(refusal: u32) -> Answer
-    ensures { result ≡ answer refusal 0 no_change }
-{
-    Answer {
-        refusal,
-        s: 0,
-        change: Change {
-            old: 0,
-            held: Contracts(0),
-            key: 0,
-            volume: Contracts(0),
-        },
-    }
-}
-
-fn done(s: usize, change: Change) -> Answer
-    ensures { result ≡ answer 0 s change }
-{
-    Answer {
-        refusal: 0,
-        s,
-        change,
-    }
 }
 
 // ---- the events
@@ -58,32 +31,30 @@ fn done(s: usize, change: Change) -> Answer
 fn in_range(price: Steps, volume: Contracts) -> bool
     ensures { result ≡ (good_price price.0 && good_volume volume.0) }
 {
-    both(ranges::price(price), ranges::volume(volume))
+    ranges::price(price) & ranges::volume(volume)
 }
 
 // One more order, after the others of its side: refused by 10, 12 or 13, in this order.
-fn add(table: &mut [u32], hints: &mut [u8], slot: usize, order: Order) -> Answer
+fn add(table: &mut [u32], hints: &mut [u8], slot: usize, order: Order) -> Result<OnSide, Refusal>
     requires { Located table.old slot × (length hints.old ≡ 2048) }
-    ensures { ((t : Millis) (minimum : ℕ) (live : List Order) → Represents table.old minimum live → slot ≡ slot_in order.id live → Applied (add_of t order) minimum live table.new result) × (0 < result.refusal → hints.new ≡ hints.old) }
+    ensures { ((t : Millis) (minimum : ℕ) (live : List Order) → Represents table.old minimum live → slot ≡ slot_in order.id live → Applied (add_of t order) minimum live table.new (answered result)) × OnErr result (hints.new ≡ hints.old) }
 {
     let side = order.side;
     let price = order.price;
     let volume = order.volume;
     if slot < 128 {
-        return refused(10);
+        return Err(Refusal::IdLive);
     }
     if in_range(price, volume) {
         if 64 <= order_table::count(table) {
-            return refused(13);
+            return Err(Refusal::TooManyOrders);
         }
         let s = order_table::side_number(side);
         order_table::note(hints, order.id, 64 * s + table[WORDS * s + COUNT] as usize);
-        return done(
-            s,
-            order_side::add(&mut table[WORDS * s..WORDS * s + WORDS], order),
-        );
+        let change = order_side::add(&mut table[WORDS * s..WORDS * s + WORDS], order);
+        return Ok(OnSide { s, change });
     }
-    refused(12)
+    Err(Refusal::PriceOrVolumeOutOfRange)
 }
 
 // An order with another price and volume.
@@ -108,36 +79,34 @@ fn amend(
     slot: usize,
     price: Steps,
     volume: Contracts,
-) -> Answer
+) -> Result<OnSide, Refusal>
     requires { Located table.old slot × (length hints.old ≡ 2048) }
-    ensures { ((t : Millis) (id minimum : ℕ) (live : List Order) → Represents table.old minimum live → slot ≡ slot_in id live → Applied (Amend t id price volume) minimum live table.new result) × (0 < result.refusal → hints.new ≡ hints.old) }
+    ensures { ((t : Millis) (id minimum : ℕ) (live : List Order) → Represents table.old minimum live → slot ≡ slot_in id live → Applied (Amend t id price volume) minimum live table.new (answered result)) × OnErr result (hints.new ≡ hints.old) }
 {
     if 128 <= slot {
-        return refused(11);
+        return Err(Refusal::IdNotLive);
     }
     if in_range(price, volume) {
         let order = order_table::order_in(table, slot);
         let s = slot / 64;
         order_table::note(hints, id, slot);
-        return done(
-            s,
-            order_side::replace_order(
-                &mut table[WORDS * s..WORDS * s + WORDS],
-                slot % 64,
-                renewed(order, price, volume),
-            ),
+        let change = order_side::replace_order(
+            &mut table[WORDS * s..WORDS * s + WORDS],
+            slot % 64,
+            renewed(order, price, volume),
         );
+        return Ok(OnSide { s, change });
     }
-    refused(12)
+    Err(Refusal::PriceOrVolumeOutOfRange)
 }
 
 // The order in a slot is removed: refused by 11 where there is none. The orders after it move up, and the hints with them.
-fn cancel(table: &mut [u32], hints: &mut [u8], slot: usize) -> Answer
+fn cancel(table: &mut [u32], hints: &mut [u8], slot: usize) -> Result<OnSide, Refusal>
     requires { Located table.old slot × (length hints.old ≡ 2048) }
-    ensures { ((t : Millis) (id minimum : ℕ) (live : List Order) → Represents table.old minimum live → slot ≡ slot_in id live → Applied (Cancel t id) minimum live table.new result) × (0 < result.refusal → hints.new ≡ hints.old) }
+    ensures { ((t : Millis) (id minimum : ℕ) (live : List Order) → Represents table.old minimum live → slot ≡ slot_in id live → Applied (Cancel t id) minimum live table.new (answered result)) × OnErr result (hints.new ≡ hints.old) }
 {
     if 128 <= slot {
-        return refused(11);
+        return Err(Refusal::IdNotLive);
     }
     let s = slot / 64;
     let place = slot % 64;
@@ -147,16 +116,22 @@ fn cancel(table: &mut [u32], hints: &mut [u8], slot: usize) -> Answer
         place,
     );
     order_table::rehint(table, hints, s, place);
-    done(s, change)
+    Ok(OnSide { s, change })
 }
 
 // The order's volume is lowered, or the order is removed where nothing remains: refused by 11, 12 or 14.
-fn deal(table: &mut [u32], hints: &mut [u8], id: u32, slot: usize, volume: Contracts) -> Answer
+fn deal(
+    table: &mut [u32],
+    hints: &mut [u8],
+    id: u32,
+    slot: usize,
+    volume: Contracts,
+) -> Result<OnSide, Refusal>
     requires { Located table.old slot × (length hints.old ≡ 2048) }
-    ensures { ((t : Millis) (id minimum : ℕ) (live : List Order) → Represents table.old minimum live → slot ≡ slot_in id live → Applied (Deal t id volume) minimum live table.new result) × (0 < result.refusal → hints.new ≡ hints.old) }
+    ensures { ((t : Millis) (id minimum : ℕ) (live : List Order) → Represents table.old minimum live → slot ≡ slot_in id live → Applied (Deal t id volume) minimum live table.new (answered result)) × OnErr result (hints.new ≡ hints.old) }
 {
     if 128 <= slot {
-        return refused(11);
+        return Err(Refusal::IdNotLive);
     }
     if ranges::volume(volume) {
         let order = order_table::order_in(table, slot);
@@ -164,23 +139,21 @@ fn deal(table: &mut [u32], hints: &mut [u8], id: u32, slot: usize, volume: Contr
         let held = order.volume.0;
         let dealt = volume.0;
         if held < dealt {
-            return refused(14);
+            return Err(Refusal::DealAboveLeft);
         }
         if held == dealt {
             return cancel(table, hints, slot);
         }
         let s = slot / 64;
         order_table::note(hints, id, slot);
-        return done(
-            s,
-            order_side::replace_order(
-                &mut table[WORDS * s..WORDS * s + WORDS],
-                slot % 64,
-                renewed(order, price, Contracts(held - dealt)),
-            ),
+        let change = order_side::replace_order(
+            &mut table[WORDS * s..WORDS * s + WORDS],
+            slot % 64,
+            renewed(order, price, Contracts(held - dealt)),
         );
+        return Ok(OnSide { s, change });
     }
-    refused(12)
+    Err(Refusal::PriceOrVolumeOutOfRange)
 }
 
 // ---- the fields of a record
@@ -207,9 +180,9 @@ fn order_of(f: Fields) -> Order
 }
 
 // A cancel, a deal, or fields that say no event.
-fn lessened(table: &mut [u32], hints: &mut [u8], slot: usize, f: Fields) -> Answer
+fn lessened(table: &mut [u32], hints: &mut [u8], slot: usize, f: Fields) -> Result<OnSide, Refusal>
     requires { Located table.old slot × (length hints.old ≡ 2048) × Lessens f }
-    ensures { ((minimum : ℕ) (live : List Order) → Represents table.old minimum live → slot ≡ slot_in f.id live → AppliedRead (read_fields f) minimum live table.old table.new result) × (0 < result.refusal → hints.new ≡ hints.old) }
+    ensures { ((minimum : ℕ) (live : List Order) → Represents table.old minimum live → slot ≡ slot_in f.id live → AppliedRead (read_fields f) minimum live table.old table.new (answered result)) × OnErr result (hints.new ≡ hints.old) }
 {
     let kind = f.kind;
     let volume = f.volume;
@@ -219,14 +192,14 @@ fn lessened(table: &mut [u32], hints: &mut [u8], slot: usize, f: Fields) -> Answ
         }
         return deal(table, hints, f.id, slot, volume);
     }
-    refused(15)
+    Err(Refusal::BadRecord)
 }
 
 // The answer to the fields of a record that is no tick, and the orders after it; the best level of its side is still that of before. The
 // kind is looked at once: what 15 refuses is looked for only where it is neither an add's nor an amendment's.
-fn changed(table: &mut [u32], hints: &mut [u8], f: Fields) -> Answer
+fn changed(table: &mut [u32], hints: &mut [u8], f: Fields) -> Result<OnSide, Refusal>
     requires { Held table.old × (length hints.old ≡ 2048) × (f.kind ≡ 6 → ⊥) }
-    ensures { ((minimum : ℕ) (live : List Order) → Represents table.old minimum live → AppliedRead (read_fields f) minimum live table.old table.new result) × (0 < result.refusal → hints.new ≡ hints.old) }
+    ensures { ((minimum : ℕ) (live : List Order) → Represents table.old minimum live → AppliedRead (read_fields f) minimum live table.old table.new (answered result)) × OnErr result (hints.new ≡ hints.old) }
 {
     let kind = f.kind;
     let price = f.price;
@@ -241,11 +214,10 @@ fn changed(table: &mut [u32], hints: &mut [u8], f: Fields) -> Answer
     lessened(table, hints, slot, f)
 }
 
-// What an event comes to: the number of the trader's refusal, or 0; whether the live orders then keep the quote, 1 or 0; for how many
-// orders volumes were added up for the best quote of its side.
+// What an accepted event comes to: whether the live orders then keep the quote, 1 or 0 (a number, since time is counted by a product with
+// it), and for how many orders volumes were added up for the best quote of its side.
 #[derive(Clone, Copy)]
 pub struct Sent {
-    pub refusal: u32,
     pub keeps: u32,
     pub sums: u32,
 }
@@ -256,7 +228,7 @@ fn keeps_after(table: &[u32], widest: u32, keeping: u32, moves: bool) -> u32
     ensures { result ≡ (if moves then keeps_by widest table.now else keeping) }
 {
     if moves {
-        return price_keys::keys_keep(widest, table[BEST], table[WORDS + BEST]);
+        return u32::from(price_keys::keys_keep(widest, table[BEST], table[WORDS + BEST]));
     }
     keeping
 }
@@ -271,30 +243,22 @@ pub fn send(
     minimum: Contracts,
     widest: u32,
     keeping: u32,
-) -> Sent
+) -> Result<Sent, Refusal>
     requires { Holding table.old hints.old minimum.0 × (f.kind ≡ 6 → ⊥) }
-    ensures { FieldsAnswered (read_fields f) minimum.0 widest keeping table.old table.new result × (0 < result.refusal → hints.new ≡ hints.old) }
+    ensures answered { FieldsAnswered (read_fields f) minimum.0 widest keeping table.old table.new (sent_by keeping result) }
+    ensures err { OnErr result (hints.new ≡ hints.old) }
 {
-    let answer = changed(table, hints, f);
-    let refusal = answer.refusal;
-    if 0 < refusal {
-        return Sent {
-            refusal,
-            keeps: keeping,
-            sums: 0,
-        };
-    }
-    let s = answer.s;
+    let on = changed(table, hints, f)?;
+    let s = on.s;
     let side = order_table::side_at(s);
     let requoted = best_level::requote(
         &mut table[WORDS * s..WORDS * s + WORDS],
         side,
-        answer.change,
+        on.change,
         minimum,
     );
-    Sent {
-        refusal: 0,
+    Ok(Sent {
         keeps: keeps_after(table, widest, keeping, requoted.moves),
         sums: requoted.sums,
-    }
+    })
 }

@@ -1,13 +1,13 @@
 -- A session's account in a lent buffer.
-use Rattle.std.specs.Prelude.{ℕ, ◌+◌, ◌*◌, ◌≡◌, List, ◌∷◌, ◌++◌, Bool, eqb, ltb, length, drop, set, if◌then◌else◌}
+use Rattle.std.specs.Prelude.{ℕ, ◌+◌, ◌*◌, ◌≡◌, List, ◌∷◌, ◌++◌, Bool, eqb, ltb, length, drop, set, if◌then◌else◌, Result, Ok, Err}
 use Rattle.rules.specs.declared.Steps.{Steps}
 use Rattle.rules.specs.declared.Strike.{Strike}
 use Rattle.rules.specs.declared.SpreadRule.{SpreadRule}
 use Rattle.rules.specs.declared.SpreadRule.TheVariants.{Settled, OfStrike}
 use Rattle.rules.specs.Accounts.{Part, part_words, Account, AccountRan}
 use Rattle.session_account.specs.declared.Times.{Times}
-use Rattle.session_account.specs.declared.AccountAnswer.{AccountAnswer}
-use Rattle.session_account.specs.declared.AccountAnswer.TheVariants.{Finished, Refused}
+use Rattle.rules.specs.declared.Stopped.{Stopped}
+use Rattle.session_account.specs.declared.Accounted.{Accounted}
 use Rattle.c_answers.specs.Answers.{refused_number}
 
 abbrev pub strike_of : ℕ → ℕ → ℕ → ℕ → Strike
@@ -53,6 +53,6 @@ abbrev pub headed_by : List ℕ → Times → ℕ → List ℕ
 headed_by b t n =
     set (set (set (set (set (set (set b 0 t.kept.0) 1 t.no_bid.0) 2 t.no_ask.0) 3 t.neither.0) 4 t.crossed.0) 5 t.wide.0) 6 n
 
-abbrev pub headed_account : List ℕ → AccountAnswer → List ℕ
-headed_account b (Finished t n) = headed_by b t n
-headed_account b (Refused refusal place) = b
+abbrev pub headed_account : List ℕ → Result Accounted Stopped → List ℕ
+headed_account b (Ok run) = headed_by b run.times run.stretches
+headed_account b (Err stop) = b

@@ -10,18 +10,15 @@ ghost use Rattle.rules.specs.Accounts.{account};
 ghost use Rattle.session_account.specs.Shown.{shown_account};
 ghost use Rattle.c_account.specs.Accounts.{strike_of, rule_of, account_number, FillsAccount, short_account, ran_account, headed_account};
 
-use rules::{SpreadRule, Steps, Strike};
-use session_account::AccountAnswer;
+use rules::{SpreadRule, Steps, Stopped, Strike};
+use session_account::Accounted;
 
-fn short_account(answer: AccountAnswer) -> u64
+fn short_account(answer: Result<Accounted, Stopped>) -> u64
     ensures { result ≡ short_account (shown_account answer) }
 {
     match answer {
-        AccountAnswer::Finished {
-            times: _,
-            stretches: _,
-        } => c_answers::refused(16),
-        AccountAnswer::Refused { refusal, place } => c_answers::refused_at(refusal, place),
+        Ok(_) => c_answers::refused(16),
+        Err(stop) => c_answers::refused_at(stop.refusal, stop.place),
     }
 }
 
@@ -34,23 +31,24 @@ fn account_short(row: &[u32], spread: SpreadRule, records: &[u8]) -> u64
 }
 
 // The times and the number of stretches before the stretches, which begin at the eighth word.
-fn head_account(answer: AccountAnswer, buffer: &mut [u32]) -> u64
+fn head_account(answer: Result<Accounted, Stopped>, buffer: &mut [u32]) -> u64
     requires { 7 ≤ length buffer.old }
     ensures number { result ≡ ran_account (shown_account answer) }
     ensures words { buffer.new ≡ headed_account buffer.old answer }
 {
     match answer {
-        AccountAnswer::Finished { times, stretches } => {
+        Ok(run) => {
+            let times = run.times;
             buffer[0] = times.kept.0;
             buffer[1] = times.no_bid.0;
             buffer[2] = times.no_ask.0;
             buffer[3] = times.neither.0;
             buffer[4] = times.crossed.0;
             buffer[5] = times.wide.0;
-            buffer[6] = stretches;
-            7 + 3 * (stretches as u64)
+            buffer[6] = run.stretches;
+            7 + 3 * (run.stretches as u64)
         }
-        AccountAnswer::Refused { refusal, place } => c_answers::refused_at(refusal, place),
+        Err(stop) => c_answers::refused_at(stop.refusal, stop.place),
     }
 }
 

@@ -1,35 +1,24 @@
 // What a call for C answers: one number, and the words or bytes that it puts at the front of a lent buffer.
 #![tactic(auto)]
 
-ghost use Rattle.std.specs.Prelude.{◌≡◌, ◌++◌, ◌+◌, ◌≤◌, length, take, drop};
+ghost use Rattle.std.specs.Prelude.{◌≡◌, ◌+◌, ◌≤◌, length, take};
 ghost use Rattle.rules.specs.Answers.{number_of, accepted};
 ghost use Rattle.c_answers.specs.Answers.{refused_number, Fills};
 
 use rules::Refusal;
 
+// A refusal by its number, as a C caller gets it (include/quoting.h): some numbers are of groups of calls that have no enum of their own.
 pub fn refused(n: u32) -> u64
     ensures { result ≡ refused_number n }
 {
-    4294967296 * (n as u64)
+    4294967296 * u64::from(n)
 }
 
 // A refusal and its place.
 pub fn refused_at(refusal: Refusal, place: u32) -> u64
     ensures { result ≡ refused_number (number_of refusal) + place }
 {
-    refused(rules::number(refusal)) + (place as u64)
-}
-
-// Puts the first n bytes at the front of a text that has room for them.
-fn put_bytes(bytes: &[u8], n: usize, text: &mut [u8])
-    requires { (n ≤ length bytes.now) × (n ≤ length text.old) }
-    ensures { text.new ≡ take n bytes.now ++ drop n text.old }
-{
-    let mut i = 0;
-    while i < n {
-        text[i] = bytes[i];
-        i += 1;
-    }
+    refused(u32::from(refusal)) + u64::from(place)
 }
 
 pub fn fill_words(words: &[u32], buffer: &mut [u32]) -> u64
@@ -39,7 +28,7 @@ pub fn fill_words(words: &[u32], buffer: &mut [u32]) -> u64
     if buffer.len() < n {
         return refused(16);
     }
-    lent::copy(words, &mut buffer[..n]);
+    buffer[..n].copy_from_slice(words);
     n as u64
 }
 
@@ -50,6 +39,6 @@ pub fn fill_bytes(bytes: &[u8], n: usize, text: &mut [u8]) -> u64
     if text.len() < n {
         return refused(16);
     }
-    put_bytes(bytes, n, text);
+    text[..n].copy_from_slice(&bytes[..n]);
     n as u64
 }

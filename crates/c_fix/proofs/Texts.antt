@@ -13,19 +13,17 @@ use Rattle.rules.specs.Answers.{accepted, refused}
 use Rattle.rules.specs.Records.{signed_of}
 use Rattle.rules.specs.Messages.{new_order, cancel_order, replace_order, write_message}
 use Rattle.words.specs.Sides.{side_by}
-use Rattle.fix_reader.specs.declared.MessageRead.{MessageRead}
-use Rattle.fix_reader.specs.Answers.{shown_message}
-use Rattle.fix_writer.specs.declared.MessageText.{MessageText}
-use Rattle.fix_writer.specs.Answers.{shown_text}
-use Rattle.c_fix.specs.Messages.{read_words, message_for, text_for}
+use Rattle.fix_reader.specs.declared.Message.{Message}
+use Rattle.fix_reader.specs.Answers.{values_shown}
+use Rattle.c_fix.specs.Messages.{message_words, message_for, text_for}
 
 -- ---- read
 pub order_words_lem : (kind id orig volume sw side pw price : ℕ) (time ws : List ℕ) → ws ≡ kind ∷ id ∷ orig ∷ sw ∷ volume ∷ pw ∷ time
     → sw ≡ side → pw ≡ price → ws ≡ kind ∷ id ∷ orig ∷ side ∷ volume ∷ price ∷ time
 order_words_lem kind id orig volume sw side pw price time ws e a b = e ∙ (λ i. kind ∷ id ∷ orig ∷ a i ∷ volume ∷ b i ∷ time)
 
-pub as_read : (read said : MessageRead) → read ≡ said → read_words (shown_message said) ≡ read_words (shown_message read)
-as_read read said h = ap (λ (m : MessageRead). read_words (shown_message m)) (sym h)
+pub as_read : (read said : Message) → read ≡ said → accepted (message_words (values_shown said)) ≡ accepted (message_words (values_shown read))
+as_read read said h = ap (λ (m : Message). accepted (message_words (values_shown m))) (sym h)
 
 -- ---- to be written
 module _ (ws sixty : List ℕ) where
@@ -62,10 +60,3 @@ module _ (ws sixty : List ℕ) where
         unfolding message_for
         no_kind l k =
             rw (le-ltb (length ws) 6 long, ne_eqb (get_or ws 0 0) 2 other, sym is ∙ h, ne_eqb (get_or ws 0 0) 1 l, ne_eqb (get_or ws 0 0) 3 k) refl
-
--- ---- the text that was written
-pub no_text : (t : MessageText) → not t.good ≡ true → refused 21 ≡ shown_text t
-no_text t h = rw (not-true t.good h) refl
-
-pub a_text : (t : MessageText) → not t.good ≡ false → accepted (take t.length t.bytes) ≡ shown_text t
-a_text t h = rw (not-false t.good h) refl

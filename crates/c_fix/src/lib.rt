@@ -5,14 +5,15 @@ ghost use Rattle.std.specs.Prelude.{◌≡◌, ◌∷◌, ◌≤◌, length, tak
 ghost use Rattle.rules.specs.Answers.{accepted};
 ghost use Rattle.rules.specs.Records.{add_kind, unsigned_of};
 ghost use Rattle.rules.specs.Messages.{read_message};
-ghost use Rattle.fix_reader.specs.Answers.{shown_message};
-ghost use Rattle.fix_writer.specs.Answers.{shown_text};
+ghost use Rattle.std.specs.Result.{ForOk};
+ghost use Rattle.fix_reader.specs.Answers.{values_shown};
+ghost use Rattle.fix_writer.specs.Answers.{shown_text, IsText};
 ghost use Rattle.c_answers.specs.Answers.{Fills};
-ghost use Rattle.c_fix.specs.Messages.{time_words, read_words, message_for, text_for};
+ghost use Rattle.c_fix.specs.Messages.{time_words, message_words, read_words, message_for, text_for};
 
-use fix_reader::MessageRead;
+use fix_reader::Message;
 use fix_writer::MessageText;
-use rules::{Contracts, Side, Steps, Timestamp};
+use rules::{Contracts, Refusal, Side, Steps, Timestamp};
 
 // The first six words of a message, then its time.
 fn message(
@@ -77,19 +78,19 @@ fn fill_cancel(id: u32, orig: u32, time: Timestamp, buffer: &mut [u32]) -> u64
 }
 
 // A message as words in a lent buffer.
-fn fill_message(read: MessageRead, buffer: &mut [u32]) -> u64
-    ensures { Fills (read_words (shown_message read)) buffer.old buffer.new result }
+fn fill_message(read: Message, buffer: &mut [u32]) -> u64
+    ensures { Fills (accepted (message_words (values_shown read))) buffer.old buffer.new result }
 {
     match read {
-        MessageRead::New {
+        Message::New {
             id,
             side,
             volume,
             price,
             time,
         } => fill_order(1, id, 0, side, volume, price, time, buffer),
-        MessageRead::Cancel { id, orig, time } => fill_cancel(id, orig, time, buffer),
-        MessageRead::Replace {
+        Message::Cancel { id, orig, time } => fill_cancel(id, orig, time, buffer),
+        Message::Replace {
             id,
             orig,
             side,
@@ -97,8 +98,6 @@ fn fill_message(read: MessageRead, buffer: &mut [u32]) -> u64
             price,
             time,
         } => fill_order(3, id, orig, side, volume, price, time, buffer),
-        MessageRead::FrameWrong => c_answers::refused(20),
-        MessageRead::FieldWrong => c_answers::refused(21),
     }
 }
 
@@ -106,7 +105,10 @@ fn fill_message(read: MessageRead, buffer: &mut [u32]) -> u64
 pub fn read_words(bytes: &[u8], buffer: &mut [u32]) -> u64
     ensures { Fills (read_words (read_message bytes.now)) buffer.old buffer.new result }
 {
-    fill_message(fix_reader::read(bytes), buffer)
+    match fix_reader::read(bytes) {
+        Ok(read) => fill_message(read, buffer),
+        Err(refusal) => c_answers::refused(u32::from(refusal)),
+    }
 }
 
 fn fill_front(bytes: [u8; 114], n: usize, text: &mut [u8]) -> u64
@@ -116,19 +118,17 @@ fn fill_front(bytes: [u8; 114], n: usize, text: &mut [u8]) -> u64
     c_answers::fill_bytes(&bytes, n, text)
 }
 
-fn fill_text(written: MessageText, text: &mut [u8]) -> u64
-    requires { written.length ≤ 114 }
+fn fill_text(written: Result<MessageText, Refusal>, text: &mut [u8]) -> u64
+    requires { ForOk written IsText }
     ensures { Fills (shown_text written) text.old text.new result }
 {
-    if !written.good {
-        return c_answers::refused(21);
+    match written {
+        Ok(t) => fill_front(t.bytes, t.length, text),
+        Err(refusal) => c_answers::refused(u32::from(refusal)),
     }
-    let bytes = written.bytes;
-    let n = written.length;
-    fill_front(bytes, n, text)
 }
 
-// The bytes of a message that words say, with the bytes of its 60.
+// The bytes of a message that words say, with the bytes of its 60. The first word is the message's kind, a number as C gives it.
 pub fn write_text(fields: &[u32], sixty: &[u8], text: &mut [u8]) -> u64
     ensures { Fills (text_for (message_for fields.now sixty.now)) text.old text.new result }
 {

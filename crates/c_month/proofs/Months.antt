@@ -1,5 +1,5 @@
 -- A month in lent words, as the numbers that are answered.
-use Rattle.std.specs.Prelude.{if◌then◌else◌}
+use Rattle.std.specs.Prelude.{if◌then◌else◌, Result, Ok, Err, OnOk, OnErr}
 use Prim.Native.Nat.{ℕ, ◌+◌}
 use native.Mathlib.Omega.{arith}
 use mathlib.Core.Path.{◌≡◌, refl, sym, ap, subst, ◌∙◌}
@@ -13,13 +13,13 @@ use Rattle.rules.specs.Answers.{accepted}
 use Rattle.rules.specs.Book.{after}
 use Rattle.month.specs.Represents.{month_of}
 use Rattle.month.proofs.Words.{month-fits, month-length}
-use Rattle.month_words.specs.declared.Called.{Called}
-use Rattle.month_words.specs.declared.Called.TheVariants.{Done, WordsShort, NoMonth, HintsShort, AnswerShort, NoCall}
+use Rattle.month_words.specs.declared.CallError.{CallError}
+use Rattle.month_words.specs.declared.CallError.TheVariants.{WordsShort, NoMonth, HintsShort, AnswerShort, NoCall}
 use Rattle.month.specs.Words.{words_after}
 use Rattle.month_in_place.specs.Entry.{may_be_month}
 use Rattle.month_words.specs.Calling.{is_call, called_by, Calling}
 use Rattle.c_answers.specs.Answers.{refused_number, Fills}
-use Rattle.c_month.specs.Internal.{called_number}
+use Rattle.c_month.specs.Internal.{error_number, called_number}
 use Rattle.c_month.specs.Months.{call_number, CallsMonth}
 use Rattle.c_answers.proofs.Filling.{fills_not, fills_whole}
 
@@ -60,32 +60,36 @@ by_called true true true false false = refl
 by_called true true true true true = refl
 by_called true true true true false = refl
 
-twenty_done : (d : Called) (c : Bool) → called_number d c ≡ 20 → d ≡ Done
-twenty_done Done c e = refl
-twenty_done WordsShort true e = absurd (omega arith)
-twenty_done WordsShort false e = absurd (omega arith)
-twenty_done NoMonth true e = absurd (omega arith)
-twenty_done NoMonth false e = absurd (omega arith)
-twenty_done HintsShort true e = absurd (omega arith)
-twenty_done HintsShort false e = absurd (omega arith)
-twenty_done AnswerShort true e = absurd (omega arith)
-twenty_done AnswerShort false e = absurd (omega arith)
-twenty_done NoCall c e = absurd (omega arith)
+twenty_done : (d : Result (Unit {0}) CallError) (c : Bool) {P : Type 0} → called_number d c ≡ 20 → OnOk d P → P
+twenty_done (Ok done) c e p = p
+twenty_done (Err WordsShort) true e p = absurd (omega arith)
+twenty_done (Err WordsShort) false e p = absurd (omega arith)
+twenty_done (Err NoMonth) true e p = absurd (omega arith)
+twenty_done (Err NoMonth) false e p = absurd (omega arith)
+twenty_done (Err HintsShort) true e p = absurd (omega arith)
+twenty_done (Err HintsShort) false e p = absurd (omega arith)
+twenty_done (Err AnswerShort) true e p = absurd (omega arith)
+twenty_done (Err AnswerShort) false e p = absurd (omega arith)
+twenty_done (Err NoCall) c e p = absurd (omega arith)
 
-pub month_called : (words hints out bytes words' hints' out' : List ℕ) (d : Called) (r : ℕ) → Calling words hints out bytes words' hints' out' d
-    → r ≡ called_number d (is_call bytes) → CallsMonth words hints out bytes words' hints' out' r
+not_made : (d : Result (Unit {0}) CallError) (c : Bool) {P : Type 0} → (called_number d c ≡ 20 → ⊥) → OnErr d P → P
+not_made (Ok done) c never p = absurd (never refl)
+not_made (Err error) c never p = p
+
+pub month_called : (words hints out bytes words' hints' out' : List ℕ) (d : Result (Unit {0}) CallError) (r : ℕ)
+    → Calling words hints out bytes words' hints' out' d → r ≡ called_number d (is_call bytes) → CallsMonth words hints out bytes words' hints' out' r
 month_called words hints out bytes words' hints' out' d r g e =
     record {
       number =
-          e ∙ ap (λ (x : Called). called_number x (is_call bytes)) g.called
+          e ∙ ap (λ (x : Result (Unit {0}) CallError). called_number x (is_call bytes)) g.called
           ∙ by_called (leb 2464 (length words)) (may_be_month words) (leb 2048 (length hints)) (leb 20 (length out)) (is_call bytes);
-      done = λ t. g.done (twenty_done d (is_call bytes) (sym e ∙ t));
-      kept = λ never. g.kept (λ is. never (e ∙ ap (λ (x : Called). called_number x (is_call bytes)) is));
+      done = λ t. twenty_done d (is_call bytes) (sym e ∙ t) g.done;
+      kept = λ never. not_made d (is_call bytes) (λ is. never (e ∙ is)) g.kept;
       leaves = g.leaves;
     }
 
-pub called_as : (d said : Called) (c : Bool) (r : ℕ) → d ≡ said → r ≡ called_number said c → r ≡ called_number d c
-called_as d said c r h e = e ∙ ap (λ (x : Called). called_number x c) (sym h)
+pub called_as : (d said : CallError) (c : Bool) (r : ℕ) → d ≡ said → r ≡ error_number said c → r ≡ error_number d c
+called_as d said c r h e = e ∙ ap (λ (x : CallError). error_number x c) (sym h)
 
 -- a refusal at a place, or 3 where the bytes are no call
 pub refused_call : (b : Bool) (k place n r : ℕ) (c : Bool) → c ≡ b → b ≡ true → n ≡ k → r ≡ n + place → r ≡ (if c then k + place else refused_number 3)

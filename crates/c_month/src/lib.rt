@@ -4,15 +4,15 @@
 ghost use Rattle.std.specs.Prelude.{◌≡◌, true, [], ◌+◌, ◌≤◌, length, if◌then◌else◌};
 ghost use Rattle.rules.specs.Answers.{accepted};
 ghost use Rattle.c_answers.specs.Answers.{refused_number, Fills};
-ghost use Rattle.c_month.specs.Internal.{called_number, viewed_number};
+ghost use Rattle.c_month.specs.Internal.{error_number, view_error_number};
 ghost use Rattle.c_month.specs.Months.{CallsMonth};
 ghost use Rattle.month.specs.Words.{words_after, HoldsMonth};
 ghost use Rattle.month_in_place.specs.Entry.{may_be_month};
 ghost use Rattle.month_words.specs.Calling.{is_call};
 ghost use Rattle.c_month.specs.Views.{ViewsMonth};
 
-use month_view::Viewed;
-use month_words::Called;
+use month_view::ViewError;
+use month_words::CallError;
 
 // The fresh month.
 pub fn fresh(words: &mut [u32]) -> u64
@@ -44,16 +44,15 @@ fn no_month(call: &[u8]) -> u64
     c_answers::refused(3)
 }
 
-fn called_number(called: Called, call: &[u8]) -> u64
-    ensures { result ≡ called_number called (is_call call.now) }
+fn error_number(error: CallError, call: &[u8]) -> u64
+    ensures { result ≡ error_number error (is_call call.now) }
 {
-    match called {
-        Called::Done => 20,
-        Called::WordsShort => short_at(1, call),
-        Called::NoMonth => no_month(call),
-        Called::HintsShort => short_at(2, call),
-        Called::AnswerShort => short_at(3, call),
-        Called::NoCall => c_answers::refused(3),
+    match error {
+        CallError::WordsShort => short_at(1, call),
+        CallError::NoMonth => no_month(call),
+        CallError::HintsShort => short_at(2, call),
+        CallError::AnswerShort => short_at(3, call),
+        CallError::NoCall => c_answers::refused(3),
     }
 }
 
@@ -62,18 +61,19 @@ pub fn call(words: &mut [u32], hints: &mut [u8], call: &[u8], answer: &mut [u32]
     requires { 2464 ≤ length words.old → may_be_month words.old ≡ true → HoldsMonth words.old }
     ensures { CallsMonth words.old hints.old answer.old call.now words.new hints.new answer.new result }
 {
-    let called = month_words::call(words, hints, call, answer);
-    called_number(called, call)
+    match month_words::call(words, hints, call, answer) {
+        Ok(()) => 20,
+        Err(error) => error_number(error, call),
+    }
 }
 
-fn viewed_number(viewed: Viewed) -> u64
-    ensures { result ≡ viewed_number viewed }
+fn view_error_number(error: ViewError) -> u64
+    ensures { result ≡ view_error_number error }
 {
-    match viewed {
-        Viewed::WordsShort => c_answers::refused(16) + 1,
-        Viewed::NoMonth => c_answers::refused(3) + 1,
-        Viewed::BufferShort => c_answers::refused(16) + 2,
-        Viewed::Written(n) => n as u64,
+    match error {
+        ViewError::WordsShort => c_answers::refused(16) + 1,
+        ViewError::NoMonth => c_answers::refused(3) + 1,
+        ViewError::BufferShort => c_answers::refused(16) + 2,
     }
 }
 
@@ -82,6 +82,8 @@ pub fn view(words: &[u32], buffer: &mut [u32]) -> u64
     requires { 2464 ≤ length words.now → may_be_month words.now ≡ true → HoldsMonth words.now }
     ensures { ViewsMonth words.now buffer.old buffer.new result }
 {
-    let viewed = month_view::view(words, buffer);
-    viewed_number(viewed)
+    match month_view::view(words, buffer) {
+        Ok(n) => n as u64,
+        Err(error) => view_error_number(error),
+    }
 }

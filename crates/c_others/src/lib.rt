@@ -14,23 +14,21 @@ ghost use Rattle.c_answers.specs.Answers.{value_number, test_number, Fills};
 ghost use Rattle.sigma.specs.Sigmas.{last_sigma};
 ghost use Rattle.c_others.specs.Extras.{weighed, sigma_words, spread_for};
 
-use board::BoardAnswer;
-use game::SafeAnswer;
-use rules::{Millis, SpreadRule, Steps, Strike};
-use sigma::SigmaAnswer;
-use volatile::DayAnswer;
+use game::AboveSixty;
+use rules::{Millis, Refusal, SpreadRule, Steps, Strike};
+use volatile::UnusablePrices;
 
 // The weight of K, L and p.
 pub fn weight_number(kept: u32, length: u32, share: u32) -> u64
     ensures { result ≡ value_number (weighed kept length share) }
 {
-    if !numbers::both(row::is_length(length), ranges::between(1, 799, share)) {
+    if !(row::is_length(length) & ranges::between(1, 799, share)) {
         return c_answers::refused(2);
     }
     if length < kept {
         return c_answers::refused(3);
     }
-    numbers::wide(verdict::weight_of(Millis(kept), Millis(length), share))
+    u64::from(verdict::weight_of(Millis(kept), Millis(length), share))
 }
 
 // The row for an expiry and a quantum from two tables of rows, seven words or none.
@@ -48,13 +46,12 @@ pub fn fill_row<'r, 'b>(
     c_answers::fill_words(row, buffer)
 }
 
-fn board_number(answer: BoardAnswer) -> u64
+fn board_number(answer: Result<bool, Refusal>) -> u64
     ensures { result ≡ test_number (shown_board answer) }
 {
     match answer {
-        BoardAnswer::Met => 1,
-        BoardAnswer::Failed => 0,
-        BoardAnswer::Refused => c_answers::refused(18),
+        Ok(met) => u64::from(met),
+        Err(refusal) => c_answers::refused(u32::from(refusal)),
     }
 }
 
@@ -65,12 +62,12 @@ pub fn board_met(strikes: &[[u32; 2]], first: u32, second: u32) -> u64
     board_number(board::judge(strikes, first, second))
 }
 
-fn fill_sigma(answer: SigmaAnswer, buffer: &mut [u32]) -> u64
+fn fill_sigma(answer: Option<u32>, buffer: &mut [u32]) -> u64
     ensures { Fills (accepted (sigma_words answer)) buffer.old buffer.new result }
 {
     match answer {
-        SigmaAnswer::Absent => 0,
-        SigmaAnswer::Of(n) => {
+        None => 0,
+        Some(n) => {
             let word = [n];
             c_answers::fill_words(&word, buffer)
         }
@@ -84,13 +81,12 @@ pub fn last_sigma(prices: &[i32], buffer: &mut [u32]) -> u64
     fill_sigma(sigma::last_sigma(prices), buffer)
 }
 
-fn day_number(answer: DayAnswer) -> u64
+fn day_number(answer: Result<bool, UnusablePrices>) -> u64
     ensures { result ≡ test_number (shown_day answer) }
 {
     match answer {
-        DayAnswer::Inside => 1,
-        DayAnswer::Outside => 0,
-        DayAnswer::Refused => c_answers::refused(22),
+        Ok(inside) => u64::from(inside),
+        Err(unusable) => c_answers::refused(unusable.number()),
     }
 }
 
@@ -123,12 +119,12 @@ pub fn ease_row(row: &mut [u32], strike: u32, prices: &[i32], threshold: u32) ->
     day_number(ease::ease_if_inside(row, spread_for(strike), prices, threshold))
 }
 
-fn safe_number(answer: SafeAnswer) -> u64
+fn safe_number(answer: Result<u32, AboveSixty>) -> u64
     ensures { result ≡ value_number (shown_safe answer) }
 {
     match answer {
-        SafeAnswer::Safe(g) => numbers::wide(g),
-        SafeAnswer::AboveSixty => c_answers::refused(26),
+        Ok(g) => u64::from(g),
+        Err(above_sixty) => c_answers::refused(above_sixty.number()),
     }
 }
 

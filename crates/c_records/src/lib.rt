@@ -9,7 +9,7 @@ ghost use Rattle.month.specs.Words.{HoldsMonth};
 ghost use Rattle.month_in_place.specs.Entry.{may_be_month};
 ghost use Rattle.c_records.specs.Records.{entry_of, RecordsMonth};
 
-// What refuses the lent buffers, or 0.
+// What refuses the lent buffers, or 0: the number that the call answers (the C interface).
 fn entry(words: &[u32], hints: &[u8], answer: &[u32]) -> u64
     ensures { result ≡ entry_of words.now hints.now answer.now }
 {

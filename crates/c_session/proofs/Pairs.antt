@@ -1,5 +1,5 @@
 -- A session's answer in a lent buffer.
-use Rattle.std.specs.Prelude.{if◌then◌else◌}
+use Rattle.std.specs.Prelude.{if◌then◌else◌, Result, Ok, Err}
 use Prim.Native.Nat.{ℕ, ◌+◌, ◌-◌, ◌*◌, ◌≤◌, ◌<◌}
 use native.Mathlib.Omega.{arith}
 use mathlib.Core.Path.{◌≡◌, refl, sym, ap, subst, ◌∙◌}
@@ -11,8 +11,8 @@ use lib.Seq.{take_all}
 use borrow.Author.Tests.{ne_eqb, ltb-true, ltb-false}
 use Rattle.rules.specs.declared.Millis.{Millis}
 use Rattle.rules.specs.declared.Refusal.{Refusal}
-use Rattle.rules.specs.declared.SessionAnswer.{SessionAnswer}
-use Rattle.rules.specs.declared.SessionAnswer.TheVariants as S
+use Rattle.rules.specs.declared.Finished.{Finished}
+use Rattle.rules.specs.declared.Stopped.{Stopped}
 use Rattle.rules.specs.Terms.{paper}
 use Rattle.rules.specs.Answers.{number_of}
 use Rattle.rules.specs.Stretches.{pair_words}
@@ -36,21 +36,21 @@ short (Session.refused m p) n h = refl
 pub short_is : (s : Session) (shown : Ran) (r n : ℕ) → shown ≡ ran 0 s → r ≡ short_number shown → n < 3 → r ≡ pairs_number n s
 short_is s shown r n e f h = f ∙ ap short_number e ∙ short s n h
 
-pub short_stopped : (r : SessionAnswer) (f : Refusal) (place n : ℕ) → r ≡ S.Refused f place → n ≡ refused_number (number_of f) + place
+pub short_stopped : (r : Result Finished Stopped) (stop : Stopped) (n : ℕ) → r ≡ Err stop → n ≡ refused_number (number_of stop.refusal) + stop.place
     → n ≡ short_number (shown_session r)
-short_stopped r f place n e is = is ∙ sym (ap (λ (x : SessionAnswer). short_number (shown_session x)) e)
+short_stopped r stop n e is = is ∙ sym (ap (λ (x : Result Finished Stopped). short_number (shown_session x)) e)
 
 -- ---- room for them
-pub head_finished : (r : SessionAnswer) (k : Millis) (w n : ℕ) (b : List ℕ) → r ≡ S.Finished k w n
-    → (3 + 2 * n ≡ ran_number (shown_session r)) × (set (set (set b 0 k.0) 1 w) 2 n ≡ headed b (shown_session r))
-head_finished r k w n b e =
-    (sym (ap (λ (x : SessionAnswer). ran_number (shown_session x)) e), sym (ap (λ (x : SessionAnswer). headed b (shown_session x)) e))
+pub head_finished : (r : Result Finished Stopped) (run : Finished) (b : List ℕ) → r ≡ Ok run
+    → (3 + 2 * run.pairs ≡ ran_number (shown_session r)) × (set (set (set b 0 run.kept.0) 1 run.weight) 2 run.pairs ≡ headed b (shown_session r))
+head_finished r run b e =
+    (sym (ap (λ (x : Result Finished Stopped). ran_number (shown_session x)) e), sym (ap (λ (x : Result Finished Stopped). headed b (shown_session x)) e))
 
-pub head-stopped : (r : SessionAnswer) (f : Refusal) (place n : ℕ) (b : List ℕ) → r ≡ S.Refused f place → n ≡ refused_number (number_of f) + place
+pub head-stopped : (r : Result Finished Stopped) (stop : Stopped) (n : ℕ) (b : List ℕ) → r ≡ Err stop → n ≡ refused_number (number_of stop.refusal) + stop.place
     → (n ≡ ran_number (shown_session r)) × (b ≡ headed b (shown_session r))
-head-stopped r f place n b e is = (
-  is ∙ sym (ap (λ (x : SessionAnswer). ran_number (shown_session x)) e),
-  sym (ap (λ (x : SessionAnswer). headed b (shown_session x)) e),
+head-stopped r stop n b e is = (
+  is ∙ sym (ap (λ (x : Result Finished Stopped). ran_number (shown_session x)) e),
+  sym (ap (λ (x : Result Finished Stopped). headed b (shown_session x)) e),
 )
 
 fills : (s : Session) (x y z : ℕ) (t : List ℕ) → FillsPairs s (x ∷ y ∷ z ∷ t) (headed (x ∷ y ∷ z ∷ buffer_after t s) (ran (length t) s)) (ran_number (ran (length t) s))

@@ -7,18 +7,14 @@ ghost use Rattle.rules.specs.Session.{shown_session, most_records, session, sess
 ghost use Rattle.c_session.specs.Sessions.{pairs_number, FillsPairs};
 ghost use Rattle.c_session.specs.Internal.{short_number, ran_number, headed};
 
-use rules::{SessionAnswer, Steps};
+use rules::{Finished, Steps, Stopped};
 
-fn short_number(answer: SessionAnswer) -> u64
+fn short_number(answer: Result<Finished, Stopped>) -> u64
     ensures { result ≡ short_number (shown_session answer) }
 {
     match answer {
-        SessionAnswer::Finished {
-            kept: _,
-            weight: _,
-            pairs: _,
-        } => c_answers::refused(16),
-        SessionAnswer::Refused { refusal, place } => c_answers::refused_at(refusal, place),
+        Ok(_) => c_answers::refused(16),
+        Err(stop) => c_answers::refused_at(stop.refusal, stop.place),
     }
 }
 
@@ -31,23 +27,19 @@ fn run_short(row: &[u32], sp: Steps, records: &[u8]) -> u64
 }
 
 // K, w and the number of pairs before the pairs, which begin at the fourth word.
-fn put_head(answer: SessionAnswer, buffer: &mut [u32]) -> u64
+fn put_head(answer: Result<Finished, Stopped>, buffer: &mut [u32]) -> u64
     requires { 3 ≤ length buffer.old }
     ensures number { result ≡ ran_number (shown_session answer) }
     ensures words { buffer.new ≡ headed buffer.old (shown_session answer) }
 {
     match answer {
-        SessionAnswer::Finished {
-            kept,
-            weight,
-            pairs,
-        } => {
-            buffer[0] = kept.0;
-            buffer[1] = weight;
-            buffer[2] = pairs;
-            3 + 2 * (pairs as u64)
+        Ok(run) => {
+            buffer[0] = run.kept.0;
+            buffer[1] = run.weight;
+            buffer[2] = run.pairs;
+            3 + 2 * (run.pairs as u64)
         }
-        SessionAnswer::Refused { refusal, place } => c_answers::refused_at(refusal, place),
+        Err(stop) => c_answers::refused_at(stop.refusal, stop.place),
     }
 }
 

@@ -9,7 +9,8 @@ use lib.ListN.{length, drop}
 use borrow.Author.Tests.{lt-ltb, le-ltb}
 use Rattle.rules.specs.Answers.{accepted, refused}
 use Rattle.standing_rules.specs.declared.Maker.{Maker}
-use Rattle.standing_rules.specs.Calls.{Standing, Call, after, outcomes_from}
+use Rattle.standing_rules.specs.declared.Call.{Call}
+use Rattle.standing_rules.specs.Calls.{Standing, after, outcomes_from}
 use Rattle.standing.specs.declared.Ran.{Ran}
 use Rattle.standing.specs.Words.{readable, calls_of}
 use Rattle.standing.specs.Claim.{ListAnswers}

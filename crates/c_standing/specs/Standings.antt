@@ -2,7 +2,8 @@
 use Rattle.std.specs.Prelude.{ℕ, ◌≡◌, Bool, List, ◌++◌, leb, ltb, length, drop, if◌then◌else◌}
 use Rattle.rules.specs.Answers.{Outcome, accepted, refused}
 use Rattle.standing_rules.specs.declared.Maker.{Maker}
-use Rattle.standing_rules.specs.Calls.{Standing, Call, after, outcomes_from}
+use Rattle.standing_rules.specs.declared.Call.{Call}
+use Rattle.standing_rules.specs.Calls.{Standing, after, outcomes_from}
 use Rattle.standing.specs.Words.{readable, calls_of}
 use Rattle.c_answers.specs.Answers.{refused_number}
 

@@ -11,10 +11,7 @@ use standing::Ran;
 fn count_number(count: usize) -> u64
     ensures { result ≡ count_number count }
 {
-    if 4294967295 < count {
-        return 4294967295;
-    }
-    count as u64
+    (count as u64).min(4294967295)
 }
 
 pub fn standing_number(calls: &[u32], ran: Ran) -> u64

@@ -15,9 +15,12 @@ use Rattle.words.proofs.Bytes.{words_behind}
 use Rattle.words.proofs.Back.{bytes_back}
 use Rattle.call_blocks.specs.declared.Decoded.{Decoded}
 use Rattle.call_blocks.specs.declared.Decoded.TheVariants as D
+use Rattle.call_blocks.specs.declared.Kind.{Kind}
+use Rattle.call_blocks.specs.declared.Kind.TheVariants as K
+use Rattle.call_blocks.specs.Named.{word_of}
 use Rattle.call_blocks.specs.Kinds.{wide_at, row_at, opening_at, strike_opening_at, call_by, call_of}
 use Rattle.call_blocks.specs.Decoded.{call_with}
-use Rattle.call_blocks.proofs.Sizes.{NoneOf}
+use Rattle.call_blocks.proofs.Sizes.{other}
 
 -- ---- arguments
 
@@ -100,34 +103,34 @@ module _ (b : List ℕ) (at n whole start end : ℕ) (w : whole ≡ 4 * (length 
 
 -- ---- the call by its kind
 
--- a kind that says no other call is a report
-not_said : (ws : List ℕ) (kind : ℕ) → NoneOf kind (17 ∷ 16 ∷ 15 ∷ 14 ∷ 13 ∷ 11 ∷ 10 ∷ 9 ∷ 8 ∷ 7 ∷ 6 ∷ 5 ∷ 4 ∷ 3 ∷ 2 ∷ 1 ∷ []) → call_by kind ws ≡ Report
-not_said ws kind h =
+-- a word that says no kind is a report
+not_said : (ws : List ℕ) (w : ℕ) → ((kind : Kind) → word_of kind ≡ w → ⊥) → call_by w ws ≡ Report
+not_said ws w h =
     rw (
-      ne_eqb kind 1 h.0.0.0.0.0.0.0.0.0.0.0.0.0.0.0.1,
-      ne_eqb kind 2 h.0.0.0.0.0.0.0.0.0.0.0.0.0.0.1,
-      ne_eqb kind 3 h.0.0.0.0.0.0.0.0.0.0.0.0.0.1,
-      ne_eqb kind 4 h.0.0.0.0.0.0.0.0.0.0.0.0.1,
-      ne_eqb kind 5 h.0.0.0.0.0.0.0.0.0.0.0.1,
-      ne_eqb kind 6 h.0.0.0.0.0.0.0.0.0.0.1,
-      ne_eqb kind 7 h.0.0.0.0.0.0.0.0.0.1,
-      ne_eqb kind 8 h.0.0.0.0.0.0.0.0.1,
-      ne_eqb kind 9 h.0.0.0.0.0.0.0.1,
-      ne_eqb kind 10 h.0.0.0.0.0.0.1,
-      ne_eqb kind 11 h.0.0.0.0.0.1,
-      ne_eqb kind 13 h.0.0.0.0.1,
-      ne_eqb kind 14 h.0.0.0.1,
-      ne_eqb kind 15 h.0.0.1,
-      ne_eqb kind 16 h.0.1,
-      ne_eqb kind 17 h.1,
+      other w h K.Open,
+      other w h K.Add,
+      other w h K.Amend,
+      other w h K.Cancel,
+      other w h K.Deal,
+      other w h K.Tick,
+      other w h K.Close,
+      other w h K.Drop,
+      other w h K.Charge,
+      other w h K.Withdraw,
+      other w h K.Look,
+      other w h K.OpenStrike,
+      other w h K.Ask,
+      other w h K.Commit,
+      other w h K.Message,
+      other w h K.Outlook,
     )
     refl
 
 module _ (ws : List ℕ) where
-  -- the first word is the kind
-  pub by_kind : (kind k : ℕ) → kind ≡ get_or ws 0 0 → kind ≡ k → call_by k ws ≡ call_of ws
+  -- the first word is the kind's
+  pub by_kind : (kind k : Kind) → word_of kind ≡ get_or ws 0 0 → kind ≡ k → call_by (word_of k) ws ≡ call_of ws
   unfolding call_of
-  by_kind kind k e f = ap (λ (j : ℕ). call_by j ws) (sym f ∙ e)
+  by_kind kind k e f = ap (λ (x : Kind). call_by (word_of x) ws) (sym f) ∙ ap (λ (j : ℕ). call_by j ws) e
 
   -- an open of either kind: what it is told besides the row and the day stands behind the day
   pub open_is : {r : Decoded} {o : Opening} (end : ℕ) → end ≡ 2 + get_or ws 1 0 → r ≡ D.Open (get_or ws (2 + get_or ws 1 0) 0) o → o ≡ opening_at ws (end + 1)
@@ -143,6 +146,6 @@ module _ (ws : List ℕ) where
       ap (call_with ws) r ∙ ap (B.Open (row_at ws) (get_or ws (2 + get_or ws 1 0) 0)) (o ∙ ap (strike_opening_at ws) f)
 
   -- any other kind
-  pub other_is : (kind : ℕ) → kind ≡ get_or ws 0 0 → NoneOf kind (17 ∷ 16 ∷ 15 ∷ 14 ∷ 13 ∷ 11 ∷ 10 ∷ 9 ∷ 8 ∷ 7 ∷ 6 ∷ 5 ∷ 4 ∷ 3 ∷ 2 ∷ 1 ∷ []) → Report ≡ call_of ws
+  pub other_is : (w : ℕ) → w ≡ get_or ws 0 0 → ((kind : Kind) → word_of kind ≡ w → ⊥) → Report ≡ call_of ws
   unfolding call_of
-  other_is kind e h = sym (not_said ws kind h) ∙ ap (λ (j : ℕ). call_by j ws) e
+  other_is w e h = sym (not_said ws w h) ∙ ap (λ (j : ℕ). call_by j ws) e

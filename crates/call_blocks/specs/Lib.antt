@@ -1,4 +1,5 @@
 pub mod Kinds
+pub mod Named
 pub mod Reading
 pub mod Writing
 pub mod Pieces

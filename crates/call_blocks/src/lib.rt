@@ -2,17 +2,19 @@
 // call it says, and how many calls and words are read from a list. The words are those of `words_in`: all that is read of the bytes goes
 // through `word`, `part` and `count`.
 //
-// One more kind of block is one arm of `due_words` and one of `decode`, with a variant of `Decoded` if it says a call that has none; in specs/
-// a clause of `due` and of `call_by`, `call_with`, `words_of` and `CallFits`; in `call_step` an arm of `call`.
+// One more kind of block is a variant of `Kind` with its word, one arm of `due_words` and one of `decode`, with a variant of `Decoded` if it
+// says a call that has none; in specs/ a clause of `word_of`, of `due` and of `call_by`, `call_with`, `words_of` and `CallFits`; in `call_step`
+// an arm of `call`.
 #![tactic(auto)]
 
 ghost use Rattle.std.specs.Prelude.{◌≡◌, ◌+◌, ◌*◌, ◌/◌, ◌≤◌, ◌<◌, length, get_or, take, drop};
 ghost use Rattle.rules.specs.Units.{millis, contracts};
 ghost use Rattle.words.specs.Bytes.{words_in, bytes_of};
-ghost use Rattle.call_blocks.specs.Kinds.{add_due, due_at, block_size, row_at, start_at, message_at, steps_at, opening_at, strike_at, strike_opening_at, wide_at, charge_at, amendment_at, ticket_at, call_by, call_of};
+ghost use Rattle.call_blocks.specs.Kinds.{add_due, due_at, row_at, start_at, message_at, steps_at, opening_at, strike_at, strike_opening_at, wide_at, charge_at, amendment_at, ticket_at, call_by, call_of};
 ghost use Rattle.words.specs.Sides.{side_by};
+ghost use Rattle.call_blocks.specs.Named.{word_of, SaysKind};
 ghost use Rattle.call_blocks.specs.Pieces.{telling, is_told};
-ghost use Rattle.call_blocks.specs.Measures.{Measures};
+ghost use Rattle.call_blocks.specs.Measures.{SaysSize, Measures};
 ghost use Rattle.call_blocks.specs.Decoded.{call_with};
 ghost use Rattle.call_blocks.specs.Internal.{Place};
 
@@ -27,8 +29,63 @@ pub struct Measured {
     pub words: usize,
 }
 
-// The call that a block says, by its arguments. An open's row and a message's bytes are not among them, since no enum holds an array or a
-// reference: they are `row`, `start` and `message` of the block's bytes.
+// What kind of call a block says, by its first word.
+#[derive(Clone, Copy, PartialEq, Eq, Debug)]
+pub enum Kind {
+    Open,
+    Add,
+    Amend,
+    Cancel,
+    Deal,
+    Tick,
+    Close,
+    Drop,
+    Charge,
+    Withdraw,
+    Look,
+    Report,
+    OpenStrike,
+    Ask,
+    Commit,
+    Message,
+    Outlook,
+}
+
+// A word that says no kind.
+#[derive(Clone, Copy, PartialEq, Eq, Debug)]
+pub struct NoKind(pub u32);
+
+impl TryFrom<u32> for Kind {
+    type Error = NoKind;
+
+    ghost try_from_gives = { SaysKind };
+
+    fn try_from(word: u32) -> Result<Self, NoKind> {
+        match word {
+            1 => Ok(Kind::Open),
+            2 => Ok(Kind::Add),
+            3 => Ok(Kind::Amend),
+            4 => Ok(Kind::Cancel),
+            5 => Ok(Kind::Deal),
+            6 => Ok(Kind::Tick),
+            7 => Ok(Kind::Close),
+            8 => Ok(Kind::Drop),
+            9 => Ok(Kind::Charge),
+            10 => Ok(Kind::Withdraw),
+            11 => Ok(Kind::Look),
+            12 => Ok(Kind::Report),
+            13 => Ok(Kind::OpenStrike),
+            14 => Ok(Kind::Ask),
+            15 => Ok(Kind::Commit),
+            16 => Ok(Kind::Message),
+            17 => Ok(Kind::Outlook),
+            _ => Err(NoKind(word)),
+        }
+    }
+}
+
+// The call that a block says, by its arguments. An open's row and a message's bytes are not among them: they are read where they are needed,
+// as `row`, `start` and `message` of the block's bytes.
 #[derive(Clone, Copy)]
 pub enum Decoded {
     Open {
@@ -96,53 +153,57 @@ fn add_due(side: u32) -> usize
 fn message_due(s: u32, m: u32) -> usize
     ensures { result ≡ 3 + (s + m + 3) / 4 }
 {
-    3 + (numbers::length(s) + numbers::length(m) + 3) / 4
+    3 + (s as usize + m as usize + 3) / 4
 }
 
-// How many words the block at the front is due. The kinds:
+// The kind of the block at the front.
+fn first_kind(bytes: &[u8]) -> Result<Kind, NoKind>
+    ensures { SaysKind (get_or (words_in bytes.now) 0 0) result }
+{
+    Kind::try_from(word(bytes, 0))
+}
+
+// How many words the block at the front is due.
 pub fn due_words(bytes: &[u8]) -> usize
     ensures { result ≡ due_at (words_in bytes.now) }
 {
-    let kind = word(bytes, 0);
+    let Ok(kind) = first_kind(bytes) else {
+        return 0;
+    };
     match kind {
-        // open, with as many row words as the second says
-        1 => 5 + numbers::length(word(bytes, 1)),
-        // add, amend, cancel, deal, tick
-        2 => add_due(word(bytes, 3)),
-        3 => 5,
-        4 => 3,
-        5 => 4,
-        6 => 2,
-        // close, drop, charge, withdraw
-        7 => 5,
-        8 => 1,
-        9 => 8,
-        10 => 4,
-        // look, report
-        11 => 4,
-        12 => 1,
-        // open a strike, with as many row words
-        13 => 8 + numbers::length(word(bytes, 1)),
-        // ask, commit
-        14 => 5,
-        15 => 11,
-        // message
-        16 => message_due(word(bytes, 1), word(bytes, 2)),
-        // outlook
-        17 => 1,
-        _ => 0,
+        // as many row words as the second word says
+        Kind::Open => 5 + word(bytes, 1) as usize,
+        Kind::OpenStrike => 8 + word(bytes, 1) as usize,
+        Kind::Add => add_due(word(bytes, 3)),
+        Kind::Amend => 5,
+        Kind::Cancel => 3,
+        Kind::Deal => 4,
+        Kind::Tick => 2,
+        Kind::Close => 5,
+        Kind::Drop => 1,
+        Kind::Charge => 8,
+        Kind::Withdraw => 4,
+        Kind::Look => 4,
+        Kind::Report => 1,
+        Kind::Ask => 5,
+        Kind::Commit => 11,
+        Kind::Message => message_due(word(bytes, 1), word(bytes, 2)),
+        Kind::Outlook => 1,
     }
 }
 
-// How many words tell the length of a block of a kind: an open's second, an add's side, a message's two lengths.
-fn telling_words(kind: u32) -> usize
-    ensures { result ≡ telling kind }
+// How many words tell the length of the block at the front: an open's second, an add's side, a message's two lengths.
+fn telling_words(bytes: &[u8]) -> usize
+    ensures { result ≡ telling (get_or (words_in bytes.now) 0 0) }
 {
+    let Ok(kind) = first_kind(bytes) else {
+        return 1;
+    };
     match kind {
-        1 => 2,
-        2 => 4,
-        13 => 2,
-        16 => 3,
+        Kind::Open => 2,
+        Kind::Add => 4,
+        Kind::OpenStrike => 2,
+        Kind::Message => 3,
         _ => 1,
     }
 }
@@ -151,24 +212,24 @@ fn telling_words(kind: u32) -> usize
 pub fn told(bytes: &[u8]) -> bool
     ensures { result ≡ is_told (words_in bytes.now) }
 {
-    telling_words(word(bytes, 0)) <= count(bytes)
+    telling_words(bytes) <= count(bytes)
 }
 
-// The number of words of the call at the front, 0 where there is none.
-pub fn size(bytes: &[u8]) -> usize
-    ensures { result ≡ block_size (words_in bytes.now) }
+// The number of words of the call at the front, where there is one.
+pub fn size(bytes: &[u8]) -> Option<usize>
+    ensures { SaysSize (words_in bytes.now) result }
 {
     let n = due_words(bytes);
-    if n <= count(bytes) {
-        return n;
+    if n == 0 || count(bytes) < n {
+        return None;
     }
-    0
+    Some(n)
 }
 
 // The same, of the words from a place on.
-fn size_at(bytes: &[u8], at: usize) -> usize
+fn size_at(bytes: &[u8], at: usize) -> Option<usize>
     requires { 4 * at ≤ length bytes.now }
-    ensures { result ≡ block_size (drop at (words_in bytes.now)) }
+    ensures { SaysSize (drop at (words_in bytes.now)) result }
 {
     let from = 4 * at;
     let rest = &bytes[from..];
@@ -181,11 +242,9 @@ pub fn measure(bytes: &[u8]) -> Measured
 {
     let mut calls: usize = 0;
     let mut at: usize = 0;
-    let mut size = size_at(bytes, 0);
-    while 0 < size {
+    while let Some(size) = size_at(bytes, at) {
         calls += 1;
         at += size;
-        size = size_at(bytes, at);
     }
     Measured { calls, words: at }
 }
@@ -214,15 +273,15 @@ fn steps_at(bytes: &[u8], i: usize) -> Steps
 fn row_end(bytes: &[u8]) -> usize
     ensures { (result ≡ 2 + get_or (words_in bytes.now) 1 0) × (result < 4294967298) }
 {
-    2 + numbers::length(word(bytes, 1))
+    2 + word(bytes, 1) as usize
 }
 
 // How many words an open's row has.
 pub fn row_length(bytes: &[u8]) -> usize
     ensures { result ≡ length (row_at (words_in bytes.now)) }
 {
-    let end = numbers::min_length(row_end(bytes), count(bytes));
-    let start = numbers::min_length(2, end);
+    let end = row_end(bytes).min(count(bytes));
+    let start = end.min(2);
     end - start
 }
 
@@ -246,8 +305,8 @@ fn part(bytes: &[u8], at: usize, n: usize) -> &[u8]
     requires { (at < 4294967296) × (n < 4294967296) }
     ensures { result.now ≡ take n (drop at (bytes_of (drop 3 (words_in bytes.now)))) }
 {
-    let end = numbers::min_length(12 + at + n, 4 * count(bytes));
-    let start = numbers::min_length(12 + at, end);
+    let end = (12 + at + n).min(4 * count(bytes));
+    let start = (12 + at).min(end);
     &bytes[start..end]
 }
 
@@ -255,15 +314,15 @@ fn part(bytes: &[u8], at: usize, n: usize) -> &[u8]
 pub fn start(bytes: &[u8]) -> &[u8]
     ensures { result.now ≡ start_at (words_in bytes.now) }
 {
-    part(bytes, 0, numbers::length(word(bytes, 1)))
+    part(bytes, 0, word(bytes, 1) as usize)
 }
 
 // The message.
 pub fn message(bytes: &[u8]) -> &[u8]
     ensures { result.now ≡ message_at (words_in bytes.now) }
 {
-    let at = numbers::length(word(bytes, 1));
-    let n = numbers::length(word(bytes, 2));
+    let at = word(bytes, 1) as usize;
+    let n = word(bytes, 2) as usize;
     part(bytes, at, n)
 }
 
@@ -311,8 +370,8 @@ fn wide_at(bytes: &[u8], i: usize) -> u64
     requires { Place i }
     ensures { result ≡ wide_at (words_in bytes.now) i }
 {
-    let low = numbers::wide(word(bytes, i));
-    let high = numbers::wide(word(bytes, i + 1));
+    let low = u64::from(word(bytes, i));
+    let high = u64::from(word(bytes, i + 1));
     low + 4294967296 * high
 }
 
@@ -474,25 +533,27 @@ fn commit(bytes: &[u8]) -> Decoded
 pub fn decode(bytes: &[u8]) -> Decoded
     ensures { call_with (words_in bytes.now) result ≡ call_of (words_in bytes.now) }
 {
-    let kind = word(bytes, 0);
+    let Ok(kind) = first_kind(bytes) else {
+        return Decoded::Report;
+    };
     let behind = row_end(bytes) + 1;
     match kind {
-        1 => open(bytes, opening_at(bytes, behind)),
-        2 => add(bytes),
-        3 => amend(bytes),
-        4 => cancel(bytes),
-        5 => deal(bytes),
-        6 => tick(bytes),
-        7 => close(bytes),
-        8 => Decoded::Drop,
-        9 => charge(bytes),
-        10 => withdraw(bytes),
-        11 => look(bytes),
-        13 => open(bytes, strike_opening_at(bytes, behind)),
-        14 => ask(bytes),
-        15 => commit(bytes),
-        16 => Decoded::Message,
-        17 => Decoded::Outlook,
-        _ => Decoded::Report,
+        Kind::Open => open(bytes, opening_at(bytes, behind)),
+        Kind::Add => add(bytes),
+        Kind::Amend => amend(bytes),
+        Kind::Cancel => cancel(bytes),
+        Kind::Deal => deal(bytes),
+        Kind::Tick => tick(bytes),
+        Kind::Close => close(bytes),
+        Kind::Drop => Decoded::Drop,
+        Kind::Charge => charge(bytes),
+        Kind::Withdraw => withdraw(bytes),
+        Kind::Look => look(bytes),
+        Kind::Report => Decoded::Report,
+        Kind::OpenStrike => open(bytes, strike_opening_at(bytes, behind)),
+        Kind::Ask => ask(bytes),
+        Kind::Commit => commit(bytes),
+        Kind::Message => Decoded::Message,
+        Kind::Outlook => Decoded::Outlook,
     }
 }

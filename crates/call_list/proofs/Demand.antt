@@ -1,7 +1,7 @@
 -- Demand 3, for every list of calls whose numbers fit their types:
 --     demand_3            of what `call_list::run` promises on the bytes of the list
 --     demand_3_by_value   of the months and answers that the calls hand back by value, from a fresh month on
-use Rattle.std.specs.Prelude.{if◌then◌else◌}
+use Rattle.std.specs.Prelude.{if◌then◌else◌, is_ok}
 use Prim.Native.Nat.{ℕ, zero, suc, ◌+◌, ◌*◌, ◌≤◌, ◌<◌}
 use native.Mathlib.Omega.{arith}
 use mathlib.Core.Path.{◌≡◌, refl, sym, ap, subst, ◌∙◌}
@@ -31,10 +31,9 @@ use Rattle.answer_words.specs.Words.{answer_words, AnswerFits}
 use Rattle.answer_words.proofs.Back.{answers_apart}
 use Rattle.answer_words.proofs.Fits.{answer_fits}
 use Rattle.month.specs.declared.Month.{Month}
-use Rattle.month.specs.declared.Reported.{Reported}
+use Rattle.month.specs.declared.After.{After}
 use Rattle.month.specs.Represents.{month_of, Answered}
-use Rattle.call_list.specs.declared.Listed.{Listed}
-use Rattle.call_list.specs.Listing.{list_words, answers_of, ListAnswered}
+use Rattle.call_list.specs.Listing.{list_words, answers_of, Listed, read_of, ListAnswered}
 use Rattle.call_list.specs.Demand.{bytes_for, answer_at, refusals_in, SaysAnswer, FromScratch, CallsRan, Shows, Demand3, Handed, Made, last_month, Demand3ByValue}
 use Rattle.call_list.proofs.Listing.{answer-length, answers_length}
 
@@ -186,12 +185,12 @@ module _ (calls : List Call) (bytes before written : List ℕ) (r : Listed) (ran
   number : length (calls_of (words_in bytes)) ≡ length calls
   number = ap length ran.said
 
-  pub ran-fits : r.fits ≡ true
+  pub ran-fits : is_ok r ≡ true
   ran-fits =
       ran.promise.fits
       ∙ le-leb (20 * length (calls_of (words_in bytes))) (length before) (omega (arith, number, ran.room))
 
-  pub ran-calls : r.calls ≡ length calls
+  pub ran-calls : (read_of r).calls ≡ length calls
   ran-calls = ran.promise.calls ∙ number
 
   ran_answers : written ≡ answers_of calls ++ drop (20 * length calls) before
@@ -288,7 +287,7 @@ module _ (calls : List Call) (fresh : Month) (handed : List Handed) (is : fresh 
   month_is : last_month fresh handed ≡ month_of (after paper calls)
   month_is = (made_from [] calls fresh handed is made).0
 
-  report_is : (r : Reported) → Answered (last_month fresh handed) B.Report r.month (shown_report r.answer)
+  report_is : (r : After Report) → Answered (last_month fresh handed) B.Report r.month (shown_report r.answer)
       → r.answer ≡ report_of paper (after paper calls)
   report_is r a =
       report_shown r.answer (report_of paper (after paper calls)) (a.answer calls month_is ∙ report_answer (after paper calls))

@@ -1,9 +1,9 @@
 -- The loop over a whole list: what is known after so many calls, and what follows at its end.
+use Rattle.std.specs.Prelude.{Ok, Err}
 use Prim.Native.Nat.{ℕ, ◌+◌, ◌-◌, ◌*◌, ◌/◌, ◌≤◌, ◌<◌}
 use native.Mathlib.Omega.{arith}
 use mathlib.Core.Path.{◌≡◌, refl, sym, ap, subst, ◌∙◌}
 use mathlib.Core.List.{List, [], ◌∷◌, ◌++◌, append_assoc, append-nil}
-use mathlib.Core.Bool.{true, false}
 use borrow.Author.Tests.{le-leb, lt-leb}
 use lib.ListN.{length, take, drop, length-append, length-drop}
 use lib.Seq.{length-take-le, take-length, take_all, take-add, drop-drop}
@@ -166,7 +166,7 @@ module _ (ws before out month : List ℕ) (at k : ℕ) (g : Ongoing ws before ou
 
 -- a buffer that is too short
 pub too_short : (ws before : List ℕ) (m : Measured) → Measures ws m → length before / 20 < m.calls
-    → ListAnswered ws before before (record { calls = m.calls; words = m.words; fits = false })
+    → ListAnswered ws before before (Err (record { list = m }))
 too_short ws before m p h =
     record {
       calls = p.calls;
@@ -178,7 +178,7 @@ too_short ws before m p h =
 -- the end of the list
 pub finished : (ws before out month : List ℕ) (at k : ℕ) → Ongoing ws before out month at k → (m : Measured) → Measures ws m
     → m.calls ≤ k
-    → ListAnswered ws before out (record { calls = m.calls; words = m.words; fits = true })
+    → ListAnswered ws before out (Ok m)
 finished ws before out month at k g m p h =
     let e : k ≡ length (calls_of ws) = omega (arith, p.calls, g.passed.some) in
     let t : take k (calls_of ws) ≡ calls_of ws = ap (λ (n : ℕ). take n (calls_of ws)) e ∙ take-length (calls_of ws) in

@@ -1,5 +1,5 @@
 -- One call of a list: the bytes of its block are one call's block, which says the same, and what the call leaves.
-use Rattle.std.specs.Prelude.{if◌then◌else◌}
+use Rattle.std.specs.Prelude.{if◌then◌else◌, Result, Ok, OnOk}
 use Prim.Native.Nat.{ℕ, ◌+◌, ◌-◌, ◌*◌, ◌/◌, ◌%◌, ◌≤◌}
 use native.Mathlib.Omega.{arith}
 use mathlib.Core.Path.{◌≡◌, sym, ap, subst, ◌∙◌}
@@ -23,8 +23,7 @@ use Rattle.call_blocks.proofs.Fronts.{words_front}
 use Rattle.answer_words.specs.Words.{answer_words}
 use Rattle.month_in_place.specs.Entry.{may_be_month}
 use Rattle.month_in_place.proofs.Entry.{month_passes}
-use Rattle.month_words.specs.declared.Called.{Called}
-use Rattle.month_words.specs.declared.Called.TheVariants.{Done}
+use Rattle.month_words.specs.declared.CallError.{CallError}
 use Rattle.month_words.specs.Calling.{is_call, called_by, Performs, Calling}
 use Rattle.month_words.proofs.Calling.{is_done}
 use Rattle.call_list.specs.Internal.{NextCalled}
@@ -94,17 +93,17 @@ module _ (b : List ℕ) (at : ℕ) (h : at ≤ length (words_in b)) where
     place-fits =
         omega (arith, is, size_fits (words_in behind), words_length behind, behind-length, words_length b, h)
 
-    module _ (month : List ℕ) (m : HoldsMonth month) (long : length month ≡ 2464) (hints hints' out month' out' : List ℕ) (r : Called)
+    module _ (month : List ℕ) (m : HoldsMonth month) (long : length month ≡ 2464) (hints hints' out month' out' : List ℕ) (r : Result (Unit {0}) CallError)
         (hinted : length hints ≡ 2048) (short : length out ≡ 20)
         (p : Calling month hints out (take (4 * size) behind) month' hints' out' r) where
-      called : r ≡ Done
+      called : r ≡ Ok tt
       called =
           p.called
           ∙ sym (is_done _ _ _ _ _ (le-leb 2464 (length month) (omega (arith, long))) (month_passes month (omega (arith, long)) m) (le-leb 2048 (length hints) (omega (arith, hinted)))
           (le-leb 20 (length out) (omega (arith, short))) (part-call behind size is some))
 
       did : Performs month out (take (4 * size) behind) month' out'
-      did = p.done called
+      did = subst (λ (x : Result (Unit {0}) CallError). OnOk x (Performs month out (take (4 * size) behind) month' out')) called p.done
 
       whole : (calls : List Call) → month ≡ words_after calls → take 2464 month ≡ words_after calls
       whole calls e = take_all 2464 month (omega (arith, long)) ∙ e

@@ -1,6 +1,6 @@
 -- Demand 3: whatever the list of calls, each is answered as worked out from scratch, by the plain book, from the calls of that list alone.
 -- First of `call_list::run`, in the bytes that it is given and the words that it writes; then of a month by value, call by call.
-use Rattle.std.specs.Prelude.{ℕ, zero, suc, ◌+◌, ◌*◌, ◌≤◌, ◌<◌, ◌≡◌, List, [], ◌∷◌, ◌++◌, map, true, length, get_or, take, drop}
+use Rattle.std.specs.Prelude.{ℕ, zero, suc, ◌+◌, ◌*◌, ◌≤◌, ◌<◌, ◌≡◌, List, [], ◌∷◌, ◌++◌, map, true, is_ok, length, get_or, take, drop}
 use Rattle.rules.specs.declared.Report.{Report}
 use Rattle.rules.specs.Terms.{paper}
 use Rattle.rules.specs.Widths.{Bytes}
@@ -18,10 +18,9 @@ use Rattle.call_blocks.specs.Reading.{calls_of}
 use Rattle.call_blocks.specs.Writing.{script_of, CallFits}
 use Rattle.answer_words.specs.Words.{answer_words, AnswerFits}
 use Rattle.month.specs.declared.Month.{Month}
-use Rattle.month.specs.declared.Reported.{Reported}
+use Rattle.month.specs.declared.After.{After}
 use Rattle.month.specs.Represents.{month_of, Reached, Answered}
-use Rattle.call_list.specs.declared.Listed.{Listed}
-use Rattle.call_list.specs.Listing.{answers_of, ListAnswered}
+use Rattle.call_list.specs.Listing.{answers_of, Listed, read_of, ListAnswered}
 
 -- ---- the bytes of a list, and what is read from a buffer of answers
 
@@ -83,7 +82,7 @@ pub record Demand3 (calls : List Call) : Type 0 where
   -- whatever `call_list::run` promises on them, with a buffer that has room: all calls are made, and each is answered from scratch
   pub runs : (before written : List ℕ) (r : Listed) → ListAnswered (words_in (bytes_for calls)) before written r
       → 20 * length calls ≤ length before
-      → (r.fits ≡ true) × (r.calls ≡ length calls) × (r.words ≡ length (script_of calls)) × FromScratch calls before written
+      → (is_ok r ≡ true) × ((read_of r).calls ≡ length calls) × ((read_of r).words ≡ length (script_of calls)) × FromScratch calls before written
   -- any further call: what is written last where it follows the list
   pub next : (c : Call) → CallFits c → (before written : List ℕ) (r : Listed)
       → ListAnswered (words_in (bytes_for (calls ++ (c ∷ [])))) before written r → 20 * (length calls + 1) ≤ length before
@@ -121,4 +120,4 @@ pub record Demand3ByValue (calls : List Call) (last : Month) (handed : List Hand
   pub answers : map (λ (h : Handed). h.shown) handed ≡ answers_from paper fresh_book calls
   -- any further call
   pub next : (c : Call) (m : Month) (shown : Outcome Reply) → Answered last c m shown → shown ≡ answer_of paper (after paper calls) c
-  pub report : (r : Reported) → Answered last B.Report r.month (shown_report r.answer) → Shows (after paper calls) r.answer
+  pub report : (r : After Report) → Answered last B.Report r.month (shown_report r.answer) → Shows (after paper calls) r.answer

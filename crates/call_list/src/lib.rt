@@ -11,12 +11,12 @@ ghost use Rattle.call_blocks.specs.Kinds.{block_size};
 ghost use Rattle.call_list.specs.Listing.{ListAnswered};
 ghost use Rattle.call_list.specs.Internal.{NextCalled};
 
-// How many calls and words of the list were read, and whether their answers fit the lent buffer.
+use call_blocks::Measured;
+
+// The lent buffer has fewer than twenty words for each of the calls that were read.
 #[derive(Clone, Copy)]
-pub struct Listed {
-    pub calls: usize,
-    pub words: usize,
-    pub fits: bool,
+pub struct AnswersShort {
+    pub list: Measured,
 }
 
 // The call of the block at a place of a list, in place: the place after it.
@@ -26,40 +26,32 @@ fn next(month: &mut [u32], hints: &mut [u8], bytes: &[u8], at: usize, answer: &m
 {
     let from = 4 * at;
     let rest = &bytes[from..];
-    let size = call_blocks::size(rest);
+    let Some(size) = call_blocks::size(rest) else {
+        return at;
+    };
     let to = 4 * size;
-    month_words::call(month, hints, &rest[..to], answer);
+    // It is made: the bytes are one block, and the buffers are long enough.
+    let _ = month_words::call(month, hints, &rest[..to], answer);
     at + size
 }
 
 // Each call goes to the month that the one before left, and its answer after those before it.
-pub fn run(bytes: &[u8], answers: &mut [u32]) -> Listed
+pub fn run(bytes: &[u8], answers: &mut [u32]) -> Result<Measured, AnswersShort>
     ensures { ListAnswered (words_in bytes.now) answers.old answers.new result }
 {
     let list = call_blocks::measure(bytes);
     let calls = list.calls;
-    let words = list.words;
     if answers.len() / 20 < calls {
-        return Listed {
-            calls,
-            words,
-            fits: false,
-        };
+        return Err(AnswersShort { list });
     }
     let mut month = [0u32; 2464];
     let mut hints = [0u8; 2048];
     month_words::fresh(&mut month);
     let mut at: usize = 0;
-    let mut k: usize = 0;
-    while k < calls {
+    for k in 0..calls {
         let from = 20 * k;
         let to = from + 20;
         at = next(&mut month, &mut hints, bytes, at, &mut answers[from..to]);
-        k += 1;
     }
-    Listed {
-        calls,
-        words,
-        fits: true,
-    }
+    Ok(list)
 }

@@ -12,7 +12,7 @@ use Rattle.rules.specs.Histories.{NoneRefused}
 use Rattle.requests.specs.DayOrder.{Whole, joined, Anywhere}
 use Rattle.requests.proofs.DayOrder.{zeros_accepted, accepted_zeros, rearranged, accepted_too}
 use Rattle.answer_words.specs.Words.{answer_words}
-use Rattle.call_list.specs.declared.Listed.{Listed}
+use Rattle.call_list.specs.Listing.{Listed}
 use Rattle.call_list.specs.Demand.{answer_at, CallsRan}
 use Rattle.call_list.proofs.Demand.{ran_from_scratch, ran-next}
 use Rattle.call_list_requests.specs.DayOrder.{Fills, SameAfter}

@@ -19,7 +19,7 @@ use Rattle.requests.specs.OldCharges.{NotPast, SameAnswers}
 use Rattle.requests.proofs.OldMonths.{old_months}
 use Rattle.requests.proofs.OldCharges.{not_past_tenfold, none_past_tenfold}
 use Rattle.answer_words.specs.Words.{answer_words}
-use Rattle.call_list.specs.declared.Listed.{Listed}
+use Rattle.call_list.specs.Listing.{Listed}
 use Rattle.call_list.specs.Listing.{list_words, answers_of}
 use Rattle.call_list.specs.Demand.{answer_at, refusals_in, CallsRan}
 use Rattle.call_list.proofs.Demand.{answers_listed, ran_from_scratch, ran-next}

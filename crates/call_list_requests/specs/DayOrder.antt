@@ -4,7 +4,7 @@ use Rattle.rules.specs.Terms.{paper}
 use Rattle.rules.specs.Calls.{Call}
 use Rattle.rules.specs.Book.{after}
 use Rattle.requests.specs.DayOrder.{Whole, joined}
-use Rattle.call_list.specs.declared.Listed.{Listed}
+use Rattle.call_list.specs.Listing.{Listed}
 use Rattle.call_list.specs.Demand.{answer_at, refusals_in, CallsRan}
 
 -- these "whole quanta" have run from a fresh month, "none refused": the refusal's number in every answer is 0

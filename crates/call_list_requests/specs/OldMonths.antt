@@ -11,7 +11,7 @@ use Rattle.requests.specs.Before.{charge_before, percents}
 use Rattle.requests.specs.OldMonths.{AtMost79, tenfold, tenfold_answer}
 use Rattle.requests.specs.OldCharges.{NotPast}
 use Rattle.answer_words.specs.Words.{answer_words}
-use Rattle.call_list.specs.declared.Listed.{Listed}
+use Rattle.call_list.specs.Listing.{Listed}
 use Rattle.call_list.specs.Listing.{list_words}
 use Rattle.call_list.specs.Demand.{answer_at, refusals_in, CallsRan}
 

@@ -3,45 +3,34 @@
 //
 // A block with an event goes its own way, past the choice between the other calls, and so does a message: the month is handed on by value,
 // and the compiler copies it at each choice that it passes through (bench/README.md). Past the end of the words there is no call, as at it.
-// One block's answer is a struct that is a function of the plain book's answer (`shown_of`): a report holds an array, which no enum may hold,
-// so it is beside the enum and blank where none is shown. An open's row is words, so seven go into a local array; a row of another length
-// is refused by 1 whatever it holds, and is handed on as no words at all.
+// What a block's call is answered says the plain book's answer (`outcome_of`). An open's row is words, so seven go into a local array; a row of
+// another length is refused by 1 whatever it holds, and is handed on as no words at all.
 #![tactic(auto)]
 
-ghost use Rattle.std.specs.Prelude.{◌≡◌, ◌≤◌, eqb, if◌then◌else◌};
-ghost use Rattle.rules.specs.Answers.{shown_answer, shown_looked, shown_asked, shown_report, shown_outlook};
+ghost use Rattle.std.specs.Prelude.{◌≡◌, ◌≤◌, Ok, Err, IsOkAnd, MatchResult, eqb, if◌then◌else◌};
+ghost use Rattle.std.specs.Result.{ForOk};
+ghost use Rattle.rules.specs.Answers.{shown_answer, shown_report};
 ghost use Rattle.rules.specs.Calls as B;
 ghost use Rattle.month.specs.Represents.{Reached, Answered};
 ghost use Rattle.words.specs.Bytes.{words_in};
 ghost use Rattle.call_blocks.specs.Kinds.{row_at, start_at, message_at};
 ghost use Rattle.call_blocks.specs.Decoded.{call_with};
-ghost use Rattle.call_step.specs.declared.Outcome.TheVariants as O;
-ghost use Rattle.call_step.specs.Blocks.{blank_report, showing, shown_of, Performed, NextBlockPerformed};
+ghost use Rattle.call_step.specs.declared.Reply.TheVariants as R;
+ghost use Rattle.call_step.specs.Blocks.{Performed, NextBlockPerformed};
 ghost use Rattle.call_step.specs.Internal.{Tells};
 
 use call_blocks::Decoded;
-use month::{AfterCall, AfterOutlook, AskedAbout, LookedAt, Month, Reported};
-use rules::{
-    Answer, Asked, CellView, Kopecks, Looked, Millis, Opening, Outlook, OutlookAnswer, Preview,
-    Quote, Report,
-};
+use month::{After, AfterCall, Month, Reported};
+use rules::{CellView, Opening, Outlook, Preview, Refusal, Report};
 
-// What a call is answered; Refused holds the refusal's number.
+// What an accepted call shows.
 #[derive(Clone, Copy)]
-pub enum Outcome {
-    Accepted,
-    Refused(u32),
-    Found(CellView),
+pub enum Reply {
+    Done,
+    Cell(CellView),
     Asked(Preview),
-    Reported,
+    Report(Report),
     Outlook(Outlook),
-}
-
-// An outcome, with the report where it is Reported and a blank one where it is not.
-#[derive(Clone, Copy)]
-pub struct Shown {
-    pub outcome: Outcome,
-    pub report: Report,
 }
 
 // What a block hands back: the month, the place behind it, what the call shows.
@@ -49,119 +38,38 @@ pub struct Shown {
 pub struct Done {
     pub month: Month,
     pub next: usize,
-    pub shown: Shown,
-}
-
-// ---- what a call shows
-
-fn blank_report() -> Report
-    ensures { result ≡ blank_report }
-{
-    let failures = [0u32; 6];
-    Report {
-        running: false,
-        time: Millis(0),
-        orders: 0,
-        bid: Quote::Absent,
-        ask: Quote::Absent,
-        kept: Millis(0),
-        lapses: 0,
-        failures,
-        fee: Kopecks(0),
-    }
-}
-
-fn showing_only(outcome: Outcome) -> Shown
-    ensures { result ≡ showing outcome }
-{
-    let report = blank_report();
-    Shown { outcome, report }
-}
-
-fn answer_shown(answer: Answer) -> Outcome
-    ensures { showing result ≡ shown_of (shown_answer answer) }
-{
-    match answer {
-        Answer::Accepted => Outcome::Accepted,
-        Answer::Refused(r) => Outcome::Refused(rules::number(r)),
-    }
-}
-
-fn looked_shown(looked: Looked) -> Outcome
-    ensures { showing result ≡ shown_of (shown_looked looked) }
-{
-    match looked {
-        Looked::Found(view) => Outcome::Found(view),
-        Looked::Refused(r) => Outcome::Refused(rules::number(r)),
-    }
-}
-
-fn asked_shown(asked: Asked) -> Outcome
-    ensures { showing result ≡ shown_of (shown_asked asked) }
-{
-    match asked {
-        Asked::Shown(preview) => Outcome::Asked(preview),
-        Asked::Refused(r) => Outcome::Refused(rules::number(r)),
-    }
-}
-
-fn outlook_shown(answer: OutlookAnswer) -> Outcome
-    ensures { showing result ≡ shown_of (shown_outlook answer) }
-{
-    match answer {
-        OutlookAnswer::Shown(outlook) => Outcome::Outlook(outlook),
-        OutlookAnswer::Refused(r) => Outcome::Refused(rules::number(r)),
-    }
+    pub shown: Result<Reply, Refusal>,
 }
 
 // ---- a call on the month
 
+// What a call of the month hands back, told on: an accepted answer shows its values, by `reply`, and a refused one its refusal.
+fn show<A, F: FnOnce(A) -> Reply>(after: After<Result<A, Refusal>>, next: usize, reply: F) -> Done
+    requires { ForOk after.answer (F.pre reply) }
+    ensures { (result.month ≡ after.month) × (result.next ≡ next) × MatchResult after.answer (λ x. IsOkAnd result.shown (F.post reply x)) (λ e. result.shown ≡ Err e) }
+{
+    Done {
+        month: after.month,
+        next,
+        shown: after.answer.map(reply),
+    }
+}
+
 fn tell(called: AfterCall, next: usize) -> Done
     ensures { Tells called.month next (shown_answer called.answer) result }
 {
-    let month = called.month;
-    let answer = called.answer;
-    let shown = showing_only(answer_shown(answer));
-    Done { month, next, shown }
+    show(called, next, |()| Reply::Done)
 }
 
-fn tell_looked(found: LookedAt, next: usize) -> Done
-    ensures { Tells found.month next (shown_looked found.answer) result }
-{
-    let month = found.month;
-    let answer = found.answer;
-    let shown = showing_only(looked_shown(answer));
-    Done { month, next, shown }
-}
-
-fn tell_asked(asked: AskedAbout, next: usize) -> Done
-    ensures { Tells asked.month next (shown_asked asked.answer) result }
-{
-    let month = asked.month;
-    let answer = asked.answer;
-    let shown = showing_only(asked_shown(answer));
-    Done { month, next, shown }
-}
-
+// A report is never refused.
 fn tell_report(reported: Reported, next: usize) -> Done
     ensures { Tells reported.month next (shown_report reported.answer) result }
 {
-    let month = reported.month;
-    let report = reported.answer;
-    let shown = Shown {
-        outcome: Outcome::Reported,
-        report,
-    };
-    Done { month, next, shown }
-}
-
-fn tell_outlook(after: AfterOutlook, next: usize) -> Done
-    ensures { Tells after.month next (shown_outlook after.answer) result }
-{
-    let month = after.month;
-    let answer = after.answer;
-    let shown = showing_only(outlook_shown(answer));
-    Done { month, next, shown }
+    Done {
+        month: reported.month,
+        next,
+        shown: Ok(Reply::Report(reported.answer)),
+    }
 }
 
 // As many words of an open's row as are handed on: a row of another length than seven is refused whatever it holds, so none are.
@@ -190,7 +98,8 @@ fn message(month: Month, bytes: &[u8]) -> AfterCall
     month.message(call_blocks::start(bytes), call_blocks::message(bytes))
 }
 
-// The call on the month, with the bytes of its block: one arm a call. Events and messages are most of a list, and `block` does them past
+// The call on the month, with the bytes of its block: one arm a call, each of which `Decoded` makes sure of; closures in a table would have to
+// take every call's arguments alike, and would be no plainer. Events and messages are most of a list, and `block` does them past
 // this choice: the compiler copies the month at each choice that it passes through.
 fn call(month: Month, said: Decoded, bytes: &[u8], next: usize) -> Done
     requires { Reached month }
@@ -200,7 +109,7 @@ fn call(month: Month, said: Decoded, bytes: &[u8], next: usize) -> Done
         Decoded::Open { day, opening } => tell(open(month, bytes, day, opening), next),
         Decoded::Send(e) => tell(month.send(e), next),
         Decoded::Message => tell(message(month, bytes), next),
-        Decoded::Ask(a) => tell_asked(month.ask(a.t, a.id, a.price, a.volume), next),
+        Decoded::Ask(a) => show(month.ask(a.t, a.id, a.price, a.volume), next, Reply::Asked),
         Decoded::Commit(a, ticket) => {
             tell(month.commit(a.t, a.id, a.price, a.volume, ticket), next)
         }
@@ -222,20 +131,19 @@ fn call(month: Month, said: Decoded, bytes: &[u8], next: usize) -> Done
             day,
             expiry,
             quantum,
-        } => tell_looked(month.look(day, expiry, quantum), next),
+        } => show(month.look(day, expiry, quantum), next, Reply::Cell),
         Decoded::Report => tell_report(month.report(), next),
-        Decoded::Outlook => tell_outlook(month.outlook(), next),
+        Decoded::Outlook => show(month.outlook(), next, Reply::Outlook),
     }
 }
 
 fn no_call(month: Month, at: usize) -> Done
-    ensures { (result.month ≡ month) × (result.next ≡ at) × (result.shown ≡ showing O.Accepted) }
+    ensures { (result.month ≡ month) × (result.next ≡ at) × (result.shown ≡ Ok R.Done) }
 {
-    let shown = showing_only(Outcome::Accepted);
     Done {
         month,
         next: at,
-        shown,
+        shown: Ok(Reply::Done),
     }
 }
 
@@ -250,10 +158,9 @@ pub fn block(month: Month, bytes: &[u8], at: usize) -> Done
     }
     let from = 4 * at;
     let rest = &bytes[from..];
-    let size = call_blocks::size(rest);
-    if size == 0 {
+    let Some(size) = call_blocks::size(rest) else {
         return no_call(month, at);
-    }
+    };
     let said = call_blocks::decode(rest);
     let next = at + size;
     match said {

@@ -1,18 +1,14 @@
 // The weight card: writes a line for each f from 0 to 1,000, with the weights by p of 600, 700 and 750.
 #![tactic(auto)]
 
-use console::{field, number, text};
+use std::io;
 
-fn line(f: u64) {
-    number(f);
-    field(b" ", weights::look_up(f, 600));
-    field(b" ", weights::look_up(f, 700));
-    field(b" ", weights::look_up(f, 750));
-    text(b"\n");
-}
-
-fn main() {
+fn main(rt: HostRuntime) -> io::Result<()> {
     for f in 0..1001 {
-        line(f);
+        let by_600 = weights::look_up(f, 600);
+        let by_700 = weights::look_up(f, 700);
+        let by_750 = weights::look_up(f, 750);
+        println!(rt; "{f} {by_600} {by_700} {by_750}")?;
     }
+    Ok(())
 }

@@ -1,14 +1,14 @@
 -- The cell that a day, an expiry and a quantum name.
-use Rattle.std.specs.Prelude.{if◌then◌else◌}
+use Rattle.std.proofs.Common.{Result, Ok, Err, if◌then◌else◌}
 use Prim.Native.Nat.{ℕ}
-use mathlib.Core.Path.{◌≡◌, refl, ap, sym, ◌∙◌}
+use mathlib.Core.Path.{◌≡◌, refl, sym, ap, subst}
 use mathlib.Core.Bool.{Bool, true, false}
 use mathlib.Core.List.{List}
 use native.Mathlib.Omega.{arith}
 use Rattle.rules.specs.declared.Cell.{Cell}
+use Rattle.rules.specs.declared.Refusal.{Refusal}
+use Rattle.rules.specs.declared.Refusal.TheVariants.{ArgumentOutOfRange, CellBlank}
 use Rattle.rules.specs.Cells.{good_cell, place_of, cell_at}
-use Rattle.cells.specs.declared.Named.{Named}
-use Rattle.cells.specs.declared.Named.TheVariants.{OutOfRange, Blank, Filled}
 use Rattle.cells.specs.Named.{named_in}
 
 pub record IsFilled (cells : List Cell) (day expiry quantum place : ℕ) (c : Cell) : Type 0 where
@@ -17,44 +17,39 @@ pub record IsFilled (cells : List Cell) (day expiry quantum place : ℕ) (c : Ce
   pub is : c ≡ cell_at cells (place_of day expiry quantum)
   pub filled : (cell_at cells (place_of day expiry quantum)).filled ≡ true
 
+-- why none is found: an argument is out of its range, or the cell is blank
+pub data IsUnfound (cells : List Cell) (day expiry quantum : ℕ) : Refusal → Type 0 where
+  out : good_cell day expiry quantum ≡ false → IsUnfound cells day expiry quantum ArgumentOutOfRange
+  blank : good_cell day expiry quantum ≡ true → (cell_at cells (place_of day expiry quantum)).filled ≡ false → IsUnfound cells day expiry quantum CellBlank
+
 module _ (cells : List Cell) (day expiry quantum : ℕ) where
   abbrev there : Cell
   there = cell_at cells (place_of day expiry quantum)
 
-  abbrev pick : Bool → Bool → Named
-  pick good filled = if good then (if filled then Filled (place_of day expiry quantum) there else Blank) else OutOfRange
+  abbrev pick : Bool → Bool → Result (ℕ × Cell) Refusal
+  pick good filled = if good then (if filled then Ok (place_of day expiry quantum, there) else Err CellBlank) else Err ArgumentOutOfRange
 
-  pub named_out : named_in cells day expiry quantum ≡ OutOfRange → good_cell day expiry quantum ≡ false
-  named_out e = go (good_cell day expiry quantum) there.filled e
+  abbrev place_in : Result (ℕ × Cell) Refusal → ℕ
+  place_in (Ok found) = found.0
+  place_in (Err r) = 0
+
+  abbrev cell_in : Result (ℕ × Cell) Refusal → Cell
+  cell_in (Ok found) = found.1
+  cell_in (Err r) = there
+
+  pub named_none : (r : Refusal) → named_in cells day expiry quantum ≡ Err r → IsUnfound cells day expiry quantum r
+  named_none r e = go (good_cell day expiry quantum) there.filled refl refl e
     where
-      go : (g f : Bool) → pick g f ≡ OutOfRange → g ≡ false
-      go true true e = let z : ◌≡◌ {A = ℕ} 0 1 = cc in absurd (omega arith)
-      go true false e = let z : ◌≡◌ {A = ℕ} 0 1 = cc in absurd (omega arith)
-      go false f e = refl
+      go : (g f : Bool) → good_cell day expiry quantum ≡ g → there.filled ≡ f → pick g f ≡ Err r → IsUnfound cells day expiry quantum r
+      go true true h k e = let z : ◌≡◌ {A = ℕ} 0 1 = cc in absurd (omega arith)
+      go true false h k e = let q : CellBlank ≡ r = cc in subst (λ (x : Refusal). IsUnfound cells day expiry quantum x) q (blank h k)
+      go false f h k e = let q : ArgumentOutOfRange ≡ r = cc in subst (λ (x : Refusal). IsUnfound cells day expiry quantum x) q (out h)
 
-  pub named_blank : named_in cells day expiry quantum ≡ Blank → (good_cell day expiry quantum ≡ true) × (there.filled ≡ false)
-  named_blank e = go (good_cell day expiry quantum) there.filled e
-    where
-      go : (g f : Bool) → pick g f ≡ Blank → (g ≡ true) × (f ≡ false)
-      go true true e = let z : ◌≡◌ {A = ℕ} 0 1 = cc in absurd (omega arith)
-      go true false e = (refl, refl)
-      go false f e = let z : ◌≡◌ {A = ℕ} 0 1 = cc in absurd (omega arith)
-
-  pub named_filled : (place : ℕ) (c : Cell) → named_in cells day expiry quantum ≡ Filled place c → IsFilled cells day expiry quantum place c
+  pub named_filled : (place : ℕ) (c : Cell) → named_in cells day expiry quantum ≡ Ok (place, c) → IsFilled cells day expiry quantum place c
   named_filled place c e =
       let (g, f, p, k) = go (good_cell day expiry quantum) there.filled e in record { good = g; at = p; is = k; filled = f }
     where
-      go : (g f : Bool) → pick g f ≡ Filled place c → (g ≡ true) × (f ≡ true) × (place ≡ place_of day expiry quantum) × (c ≡ there)
-      go true true e = (refl, refl, cc, cc)
+      go : (g f : Bool) → pick g f ≡ Ok (place, c) → (g ≡ true) × (f ≡ true) × (place ≡ place_of day expiry quantum) × (c ≡ there)
+      go true true e = (refl, refl, sym (ap place_in e), sym (ap cell_in e))
       go true false e = let z : ◌≡◌ {A = ℕ} 0 1 = cc in absurd (omega arith)
       go false f e = let z : ◌≡◌ {A = ℕ} 0 1 = cc in absurd (omega arith)
-
-  -- and back
-  pub is_out : good_cell day expiry quantum ≡ false → OutOfRange ≡ named_in cells day expiry quantum
-  is_out h = sym (ap (λ (g : Bool). pick g there.filled) h)
-
-  pub is_blank : good_cell day expiry quantum ≡ true → there.filled ≡ false → Blank ≡ named_in cells day expiry quantum
-  is_blank h k = sym (λ i. pick (h i) (k i))
-
-  pub is_filled : (place : ℕ) (c : Cell) → IsFilled cells day expiry quantum place c → Filled place c ≡ named_in cells day expiry quantum
-  is_filled place c r = (λ i. Filled (r.at i) (r.is i)) ∙ sym (λ i. pick (r.good i) (r.filled i))

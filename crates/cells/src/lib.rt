@@ -8,16 +8,7 @@ ghost use Rattle.rules.specs.Changes.{charged};
 ghost use Rattle.rules.specs.Causes.{good_charges};
 ghost use Rattle.cells.specs.Named.{named_in};
 
-use numbers::both;
-use rules::{Cell, Kopecks, Millis};
-
-// A named cell.
-#[derive(Clone, Copy)]
-pub enum Named {
-    OutOfRange,
-    Blank,
-    Filled(usize, Cell),
-}
+use rules::{Cell, Kopecks, Millis, Refusal};
 
 // A cell as it is at first, and after withdraw.
 pub fn blank_cell() -> Cell
@@ -39,17 +30,18 @@ pub fn blank_cell() -> Cell
 pub fn both_charges(active: Kopecks, passive: Kopecks) -> bool
     ensures { result ≡ good_charges paper active passive }
 {
-    both(ranges::charge(active), ranges::charge(passive))
+    ranges::charge(active) & ranges::charge(passive)
 }
 
 // A cell with new charges in place of its old ones.
 pub fn recharged(cell: Cell, active: Kopecks, passive: Kopecks) -> Cell
     ensures { result ≡ charged active passive cell }
 {
-    let mut next = cell;
-    next.active = active;
-    next.passive = passive;
-    next
+    Cell {
+        active,
+        passive,
+        ..cell
+    }
 }
 
 // The place of a cell among the 186.
@@ -68,17 +60,22 @@ pub fn at(cells: [Cell; 186], place: usize) -> Cell
     cells[place]
 }
 
-// The cell that a day, an expiry and a quantum name.
-pub fn find(cells: [Cell; 186], day: u32, expiry: u32, quantum: u32) -> Named
+// The filled cell that a day, an expiry and a quantum name, and its place.
+pub fn find(
+    cells: [Cell; 186],
+    day: u32,
+    expiry: u32,
+    quantum: u32,
+) -> Result<(usize, Cell), Refusal>
     ensures { result ≡ named_in cells day expiry quantum }
 {
     if !ranges::cell(day, expiry, quantum) {
-        return Named::OutOfRange;
+        return Err(Refusal::ArgumentOutOfRange);
     }
     let place = place_of(day, expiry, quantum);
     let cell = at(cells, place);
-    if cell.filled {
-        return Named::Filled(place, cell);
+    if !cell.filled {
+        return Err(Refusal::CellBlank);
     }
-    Named::Blank
+    Ok((place, cell))
 }

@@ -1,17 +1,20 @@
 -- The words of a month's cells, and what a call that names one of them promises.
-use Rattle.std.specs.Prelude.{ℕ, zero, suc, ◌≡◌, Bool, true, set, if◌then◌else◌}
-use mathlib.Core.List.{List, Memᴰ}
+use Rattle.std.specs.Prelude.{ℕ, zero, suc, ◌≡◌, Bool, set, if◌then◌else◌}
+use mathlib.Core.List.{List}
+use lib.ListN.{length}
 use Rattle.rules.specs.declared.Cell.{Cell}
-use Rattle.rules.specs.Terms.{paper}
 use Rattle.rules.specs.Cells.{cell_at}
-use Rattle.rules.specs.Bounds.{CellBounds}
+use Rattle.pay.specs.Months.{HoldsGood}
 use Rattle.lent.specs.Words.{cells_words}
+use Rattle.lent.proofs.Back.{cells_many}
 
 -- the words of cells of which every filled one is in its bounds: those of a month always are
-pub record HoldsCells (words : List ℕ) : Type 0 where
-  pub cells : List Cell
-  pub is : words ≡ cells_words cells
-  pub good : (c : Cell) → Memᴰ c cells → c.filled ≡ true → CellBounds paper c
+abbrev pub HoldsCells : List ℕ → Type 0
+HoldsCells words = HoldsGood (λ (cells : List Cell). words ≡ cells_words cells)
+
+-- 1,860 words are those of 186 cells
+pub many_in : (words : List ℕ) (cells : List Cell) → length words ≡ 1860 → words ≡ cells_words cells → length cells ≡ 186
+many_in words cells many is = cells_many cells words is many
 
 -- 3 where an argument is out of its range, 5 where the cell is blank, else 0
 abbrev pub cell_refusal : Bool → Bool → ℕ

@@ -12,8 +12,9 @@ ghost use Rattle.rules.specs.Causes.{good_charges};
 ghost use Rattle.rules.specs.Changes.{charged};
 ghost use Rattle.rules.specs.Pay as P;
 ghost use Rattle.lent.specs.Words.{cells_words};
-ghost use Rattle.cells_in_place.specs.Cells.{HoldsCells, ChangesCell};
+ghost use Rattle.cells_in_place.specs.Cells.{HoldsCells, ChangesCell, many_in};
 
+use pay::MonthCells;
 use rules::{Cell, Kopecks, Refusal};
 
 // ---- one cell
@@ -51,15 +52,15 @@ pub fn charge(
     ensures { ChangesCell words.old (good_cell day expiry quantum && good_charges paper active passive) (place_of day expiry quantum) (charged active passive) words.new result }
 {
     if !cells::both_charges(active, passive) {
-        return rules::number(Refusal::ArgumentOutOfRange);
+        return u32::from(Refusal::ArgumentOutOfRange);
     }
     if !ranges::cell(day, expiry, quantum) {
-        return rules::number(Refusal::ArgumentOutOfRange);
+        return u32::from(Refusal::ArgumentOutOfRange);
     }
     let place = cells::place_of(day, expiry, quantum);
     let cell = at(words, place);
     if !cell.filled {
-        return rules::number(Refusal::CellBlank);
+        return u32::from(Refusal::CellBlank);
     }
     put(words, place, cells::recharged(cell, active, passive));
     0
@@ -71,12 +72,12 @@ pub fn withdraw(words: &mut [u32], day: u32, expiry: u32, quantum: u32) -> u32
     ensures { ChangesCell words.old (good_cell day expiry quantum) (place_of day expiry quantum) (λ (_ : Cell). blank_cell) words.new result }
 {
     if !ranges::cell(day, expiry, quantum) {
-        return rules::number(Refusal::ArgumentOutOfRange);
+        return u32::from(Refusal::ArgumentOutOfRange);
     }
     let place = cells::place_of(day, expiry, quantum);
     let cell = at(words, place);
     if !cell.filled {
-        return rules::number(Refusal::CellBlank);
+        return u32::from(Refusal::CellBlank);
     }
     put(words, place, cells::blank_cell());
     0
@@ -84,19 +85,22 @@ pub fn withdraw(words: &mut [u32], day: u32, expiry: u32, quantum: u32) -> u32
 
 // ---- all of them
 
-// The failure count of one series: its cells are six apart, one for each day.
-fn failed_in(words: &[u32], expiry: u32, quantum: u32) -> u32
-    requires { (length words.now ≡ 1860) × (1 ≤ expiry) × (expiry ≤ 2) × (quantum ≤ 2) }
-    ensures { (cells : List Cell) → words.now ≡ cells_words cells → result ≡ P.failures paper cells expiry quantum }
-{
-    let first = (expiry as usize - 1) * 3 + quantum as usize;
-    let mut count: u32 = 0;
-    let mut day: usize = 0;
-    while day < 31 {
-        count += pay::tally(at(words, day * 6 + first));
-        day += 1;
+// The cells, as `pay` reads them.
+#[derive(Clone, Copy)]
+struct CellWords<'a> {
+    words: &'a [u32],
+}
+
+impl<'a> MonthCells for CellWords<'a> {
+    ghost readable = { λ m. length m.words.now ≡ 1860 };
+
+    ghost holds = { λ m cells. m.words.now ≡ cells_words cells };
+
+    ghost many = { λ m cells. many_in m.words.now cells };
+
+    fn at(&self, place: usize) -> Cell {
+        at(self.words, place)
     }
-    count
 }
 
 // Each series' failure count, as `pay::failures` has them.
@@ -104,27 +108,7 @@ pub fn failures(words: &[u32]) -> [u32; 6]
     requires { length words.now ≡ 1860 }
     ensures { (cells : List Cell) → words.now ≡ cells_words cells → result ≡ P.all_failures paper cells }
 {
-    let a = failed_in(words, 1, 0);
-    let b = failed_in(words, 1, 1);
-    let c = failed_in(words, 1, 2);
-    let d = failed_in(words, 2, 0);
-    let e = failed_in(words, 2, 1);
-    let f = failed_in(words, 2, 2);
-    [a, b, c, d, e, f]
-}
-
-// What all cells earn together, not yet divided.
-fn earned_in(words: &[u32]) -> u64
-    requires { HoldsCells words.now × (length words.now ≡ 1860) }
-    ensures { (cells : List Cell) → words.now ≡ cells_words cells → result ≡ sum (map (P.earned paper) cells) }
-{
-    let mut total: u64 = 0;
-    let mut i: usize = 0;
-    while i < 186 {
-        total += pay::earned(at(words, i));
-        i += 1;
-    }
-    total
+    pay::failures(&CellWords { words })
 }
 
 // The month's fee, by its failure counts.
@@ -132,8 +116,5 @@ pub fn fee(words: &[u32], counts: [u32; 6]) -> Kopecks
     requires { HoldsCells words.now × (length words.now ≡ 1860) }
     ensures { (cells : List Cell) → words.now ≡ cells_words cells → counts ≡ P.all_failures paper cells → result ≡ kopecks (P.fee paper cells) }
 {
-    if pay::too_many(counts) {
-        return Kopecks(0);
-    }
-    pay::fee_of(earned_in(words))
+    pay::fee_by(&CellWords { words }, counts)
 }

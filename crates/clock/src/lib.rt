@@ -175,7 +175,7 @@ pub fn put_clock(clock: Clock, words: &mut [u32])
     let time = clock.time;
     let kept = clock.kept;
     let five = [time.0, kept.0, clock.keeps, clock.lapses, clock.last];
-    lent::copy(&five, words);
+    words.copy_from_slice(&five);
 }
 
 pub fn clock_in(words: &[u32]) -> Clock

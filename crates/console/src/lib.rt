@@ -1,80 +1,31 @@
-// What the programs share: text and numbers to standard output, bytes from standard input, and the words and prices in them. No
-// contract can say which bytes C reads or writes, so those that print promise no more than that they are safe and end.
+// What the programs share: standard input, the words and prices of a case in it, and words and bytes as text. No contract can say which
+// bytes a program reads or writes, so what prints promises no more than that it is safe and ends.
 #![tactic(auto)]
 
 ghost use Rattle.std.specs.Prelude.{◌≡◌, ◌+◌, ◌*◌, ◌≤◌, length};
-ghost use Rattle.io.specs.Counts.{IsPrefixLen};
 ghost use Rattle.rules.specs.Records.{signed_of, word_at};
 ghost use Rattle.words.specs.Bytes.{words_from};
 ghost use Rattle.console.specs.Reading.{prices_from};
 
-use rules::Steps;
-use std::io::{Read, Stdin};
+mod case;
+mod shown;
 
-// The numbers by which C knows a program's standard input and output.
-const STDIN_FILENO: i32 = 0;
+pub use case::{Case, CaseError};
+pub use shown::{Hex, Words};
+use std::alloc::Global;
+use std::io;
+use std::io::{Input, Read};
 
-const STDOUT_FILENO: i32 = 1;
-
-pub fn text(bytes: &[u8]) {
-    io::write_all(STDOUT_FILENO, bytes);
-}
-
-pub fn number(n: u64) {
-    io::print_decimal(STDOUT_FILENO, n);
-}
-
-// A byte by its two hexadecimal digits.
-pub fn hex(b: u8) {
-    io::print_hex(STDOUT_FILENO, b as u64, 2);
-}
-
-// A name and a number after it. The name includes the spaces between them.
-pub fn field(name: &[u8], n: u32) {
-    text(name);
-    number(n as u64);
-}
-
-// The same with the line's end.
-pub fn field_line(name: &[u8], n: u32) {
-    field(name, n);
-    text(b"\n");
-}
-
-// A price, with a minus sign if it is negative.
-pub fn price(p: Steps) {
-    let w = words::from_steps(p);
-    if w < 2147483648 {
-        number(w as u64);
-        return;
+// Standard input, as far as so many bytes. A read that fails counts as its end. No contract can say which bytes come; how many did is the
+// length of what is returned.
+pub fn input(rt: &impl Input, alloc: Global, most: u64) -> io::Result<Vec<u8>> {
+    let mut bytes = Vec::new(alloc);
+    if let Err(e) = rt.reader().take(most).read_to_end(&mut bytes) {
+        if e.kind() == io::ErrorKind::OutOfMemory {
+            return Err(e);
+        }
     }
-    text(b"-");
-    number((4294967295 - w) as u64 + 1);
-}
-
-// A line of a name and words.
-pub fn words_line(name: &[u8], words: &[u32]) {
-    text(name);
-    for i in 0..words.len() {
-        field(b" ", words[i]);
-    }
-    text(b"\n");
-}
-
-// Standard input, as far as there is room: the number of bytes that are put at the front.
-pub fn read(bytes: &mut [u8]) -> usize
-    ensures { IsPrefixLen result bytes.new }
-{
-    io::read_full(STDIN_FILENO, bytes)
-}
-
-// One read of standard input, into the bytes from a place on: how many have come, 0 at the end of the input. It waits only where none are
-// there yet. A read that fails counts as the end.
-pub fn read_more(input: &mut Stdin, bytes: &mut [u8], from: usize) -> usize
-    requires { from ≤ length bytes.old }
-    ensures { from + result ≤ length bytes.new }
-{
-    input.read(&mut bytes[from..]).unwrap_or(0)
+    Ok(bytes)
 }
 
 // Fills the lent words with those that start at a byte.
@@ -91,8 +42,7 @@ fn price_at(bytes: &[u8], at: usize) -> i32
     requires { at + 4 ≤ length bytes.now }
     ensures { result ≡ signed_of (word_at bytes.now at) }
 {
-    let price = words::to_steps(words::word_at(bytes, at));
-    price.0
+    words::to_steps(words::word_at(bytes, at)).0
 }
 
 // Fills the lent prices with those that start at a byte.
@@ -101,7 +51,6 @@ pub fn read_prices(bytes: &[u8], from: usize, prices: &mut [i32])
     ensures { prices.new ≡ prices_from bytes.now from (length prices.old) }
 {
     for i in 0..prices.len() {
-        let p = price_at(bytes, from + 4 * i);
-        prices[i] = p;
+        prices[i] = price_at(bytes, from + 4 * i);
     }
 }

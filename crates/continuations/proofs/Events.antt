@@ -1,4 +1,5 @@
 -- Events that follow: they change nothing below the present; all live orders can be cancelled, and a quote put again.
+use Rattle.std.proofs.Common.{None, Option, Some}
 use Prim.Native.Nat.{ℕ, zero, suc, ◌+◌, ◌-◌, ◌*◌, ◌^◌, ◌≤◌, ◌<◌}
 use native.Mathlib.Omega.{arith}
 use mathlib.Core.Path.{◌≡◌, refl, sym, ap, ◌∙◌, subst}
@@ -9,13 +10,12 @@ use lib.IntN.{ℤ, pos, negsuc, ◌*ℤ◌}
 use lib.Signed.{le_z}
 use lib.ListN.{length}
 use borrow.Author.Tests.{leb-true, le-leb, eq-eqb}
+use Rattle.rules.specs.declared.Steps.{Steps}
 use Rattle.rules.specs.declared.Order.{Order}
 use Rattle.rules.specs.declared.Row.{Row}
 use Rattle.rules.specs.declared.SpreadRule.{SpreadRule}
 use Rattle.rules.specs.declared.SpreadRule.TheVariants.{Settled, OfStrike}
 use Rattle.rules.specs.declared.Strike.{Strike}
-use Rattle.rules.specs.declared.Quote.{Quote}
-use Rattle.rules.specs.declared.Quote.TheVariants.{Absent, At}
 use Rattle.rules.specs.declared.Side.TheVariants.{Buy, Sell}
 use Rattle.rules.specs.declared.Event.{Event}
 use Rattle.rules.specs.declared.Event.TheVariants.{Add, Cancel}
@@ -108,11 +108,11 @@ abbrev sell_again : Row → Order
 sell_again row = record { id = 2; side = Sell; price = steps (pos 1); volume = row.minimum }
 
 -- one buy and one sell of M contracts, a step apart, are the best quotes ..
-bid-again : (row : Row) → best_bid row (buy_again row ∷ sell_again row ∷ []) ≡ At (steps (pos 0))
+bid-again : (row : Row) → best_bid row (buy_again row ∷ sell_again row ∷ []) ≡ Some (steps (pos 0))
 unfolding best qualifies depth filter sum lead
 bid-again row = rw (le-leb row.minimum.0 (row.minimum.0 + 0) (omega arith)) refl
 
-ask_again : (row : Row) → best_ask row (buy_again row ∷ sell_again row ∷ []) ≡ At (steps (pos 1))
+ask_again : (row : Row) → best_ask row (buy_again row ∷ sell_again row ∷ []) ≡ Some (steps (pos 1))
 unfolding best qualifies depth filter sum lead
 ask_again row = rw (le-leb row.minimum.0 (row.minimum.0 + 0) (omega arith)) refl
 
@@ -120,8 +120,8 @@ ask_again row = rw (le-leb row.minimum.0 (row.minimum.0 + 0) (omega arith)) refl
 pair_keeps : (row : Row) (spread : SpreadRule) → orders_keep row spread (buy_again row ∷ sell_again row ∷ []) ≡ can_keep row spread
 unfolding orders_keep quotes_keep
 pair_keeps row spread =
-    ap (λ (q : Quote). quotes_keep row spread q (best_ask row (buy_again row ∷ sell_again row ∷ []))) (bid-again row)
-    ∙ ap (quotes_keep row spread (At (steps (pos 0)))) (ask_again row)
+    ap (λ (q : Option Steps). quotes_keep row spread q (best_ask row (buy_again row ∷ sell_again row ∷ []))) (bid-again row)
+    ∙ ap (quotes_keep row spread (Some (steps (pos 0)))) (ask_again row)
 
 -- nothing kept from the present to s, and from s on what the pair keeps
 pub record Back (row : Row) (spread : SpreadRule) (events more : List Event) (s : ℕ) : Type 0 where
@@ -219,7 +219,7 @@ nothing_keeps row spread h orders = go (best_bid row orders) (best_ask row order
         fails true false e = refl
         fails false false e = refl
 
-    go : (bid ask : Quote) → quotes_keep row spread bid ask ≡ false
-    go Absent ask = refl
-    go (At bid) Absent = refl
-    go (At bid) (At ask) = gapped (gap bid.0 ask.0)
+    go : (bid ask : Option Steps) → quotes_keep row spread bid ask ≡ false
+    go None ask = refl
+    go (Some bid) None = refl
+    go (Some bid) (Some ask) = gapped (gap bid.0 ask.0)

@@ -1,6 +1,6 @@
 -- The outlook's answers hold of every list of events and a close that the book accepts. The cell that they leave is worked out from the
 -- milliseconds that are kept then, which are those of before below the present.
-use Rattle.std.specs.Prelude.{if◌then◌else◌}
+use Rattle.std.specs.Prelude.{if◌then◌else◌, None, Option, Some}
 use Prim.Native.Nat.{ℕ, ◌+◌, ◌-◌, ◌≤◌, ◌<◌}
 use native.Mathlib.Omega.{arith}
 use mathlib.Core.Path.{◌≡◌, refl, sym, ap, ◌∙◌, subst}
@@ -12,8 +12,6 @@ use lib.Seq.{get_or-set_same}
 use borrow.Author.Tests.{eqb-true, eq-eqb, ne_eqb, le-leb, lt-leb, leb-true, leb-false}
 use Rattle.rules.specs.declared.Kopecks.{Kopecks}
 use Rattle.rules.specs.declared.Millis.{Millis}
-use Rattle.rules.specs.declared.Possible.{Possible}
-use Rattle.rules.specs.declared.Possible.TheVariants.{Never, At}
 use Rattle.rules.specs.declared.Opening.{Opening}
 use Rattle.rules.specs.declared.Row.{Row}
 use Rattle.rules.specs.declared.Cell.{Cell}
@@ -55,15 +53,15 @@ or_swap true c h = or_second c refl
 or_swap false true h = refl
 or_swap false false h = h
 
-abbrev number_of : Possible → ℕ
-number_of Never = 0
-number_of (At n) = n.0
+abbrev number_of : Option Millis → ℕ
+number_of None = 0
+number_of (Some n) = n.0
 
-at-parts : (c : Bool) (k : ℕ) (n : Millis) → (if c then At (millis k) else Never) ≡ At n → (c ≡ true) × (k ≡ n.0)
+at-parts : (c : Bool) (k : ℕ) (n : Millis) → (if c then Some (millis k) else None) ≡ Some n → (c ≡ true) × (k ≡ n.0)
 at-parts true k n e = (refl, ap number_of e)
 at-parts false k n e = absurd (true≢false (ap is_never e))
 
-never_part : (c : Bool) (k : ℕ) → (if c then At (millis k) else Never) ≡ Never → c ≡ false
+never_part : (c : Bool) (k : ℕ) → (if c then Some (millis k) else None) ≡ None → c ≡ false
 never_part true k e = absurd (false≢true (ap is_never e))
 never_part false k e = refl
 
@@ -242,19 +240,19 @@ module _ (b : Book) (place : ℕ) (row : Row) (opening : Opening) (events : List
 
   -- ---- until when
 
-  abbrev Latest : Possible → Type 0
+  abbrev Latest : Option Millis → Type 0
   Latest = LatestPassing (may_so paper row opening events) t (whole - t)
 
-  latest_by : (s : Millis) → latest_rest paper row opening events ≡ At s → Latest (At s)
+  latest_by : (s : Millis) → latest_rest paper row opening events ≡ Some s → Latest (Some s)
   unfolding latest_rest
   latest_by s e = subst Latest e (latest-found (may_so paper row opening events) t (whole - t))
 
-  in_time : (s : Millis) → latest_rest paper row opening events ≡ At s → Winning (back_at row events s.0)
+  in_time : (s : Millis) → latest_rest paper row opening events ≡ Some s → Winning (back_at row events s.0)
   in_time s e =
       let (low, high, may, none) = latest_by s e in
       winning s.0 low (omega (arith, high, ends)) may
 
-  too_late : (s : Millis) → latest_rest paper row opening events ≡ At s → (until : ℕ) → s.0 < until → until ≤ whole
+  too_late : (s : Millis) → latest_rest paper row opening events ≡ Some s → (until : ℕ) → s.0 < until → until ≤ whole
       → (more : List Event) → InTurn row events more → ((m : ℕ) → t ≤ m → m < until → then' more m ≡ false)
       → cell_met paper (cell_of row opening (then' more)) ≡ false
   too_late s e until later inside more p =
@@ -440,11 +438,11 @@ module _ (b : Book) (place : ℕ) (row : Row) (opening : Opening) (events : List
           let none = count_none (λ (d : ℕ). then' more (t + d)) (whole - t) (λ d l. none_kept e (events ++ more) (t + d)) in
           ap (λ (b : Bool). b || false) (eq-eqb lacks 0 (omega (arith, enough, none)))
 
-  full_at : (n : Millis) → full_need paper row opening events ≡ At n → (may_full ≡ true) × (lacks ≡ n.0)
+  full_at : (n : Millis) → full_need paper row opening events ≡ Some n → (may_full ≡ true) × (lacks ≡ n.0)
   unfolding full_need
   full_at n e = at-parts may_full lacks n e
 
-  full_none : full_need paper row opening events ≡ Never → may_full ≡ false
+  full_none : full_need paper row opening events ≡ None → may_full ≡ false
   unfolding full_need
   full_none e = never_part may_full lacks e
 

@@ -1,9 +1,8 @@
 -- The outlook on an open quantum, compared with what may really follow: every list of events and a close that the plain book accepts. None
 -- of this uses the outlook's formulas; the cells are those that the book's close leaves.
-use Rattle.std.specs.Prelude.{ℕ, ◌+◌, ◌-◌, ◌≤◌, ◌<◌, ◌≡◌, List, [], ◌∷◌, ◌++◌, map, Bool, true, false, leb, pos}
+use Rattle.std.specs.Prelude.{ℕ, ◌+◌, ◌-◌, ◌≤◌, ◌<◌, ◌≡◌, List, [], ◌∷◌, ◌++◌, map, Bool, true, false, leb, pos, None, Some}
 use Rattle.rules.specs.declared.Kopecks.{Kopecks}
 use Rattle.rules.specs.declared.Millis.{Millis}
-use Rattle.rules.specs.declared.Possible.TheVariants.{Never, At}
 use Rattle.rules.specs.declared.LapsesLeft.{LapsesLeft}
 use Rattle.rules.specs.declared.LapsesLeft.TheVariants.{Unlimited, Over, Left}
 use Rattle.rules.specs.declared.Opening.{Opening}
@@ -89,33 +88,33 @@ pub record Foresees (b : Book) (place : ℕ) (row : Row) (opening : Opening) (ev
       → within_lapse_limit opening.allowed (cell_left b place more active passive).lapses ≡ true
       → o.need.0 ≤ kept_of_rest row opening.spread events more → cell_met paper (cell_left b place more active passive) ≡ true
   -- by, a time: cancelling every live order now, quoting again at that time and closing is accepted, and leaves a met cell ..
-  pub by_met : (s : Millis) → o.by ≡ At s
+  pub by_met : (s : Millis) → o.by ≡ Some s
       → NoneRefused paper b (ending (back_at row events s.0) (kopecks 0) (kopecks 0))
       × (cell_met paper (cell_left b place (back_at row events s.0) (kopecks 0) (kopecks 0)) ≡ true)
   -- .. and where nothing is kept from now up to a later time, L at most, the cell is failed
-  pub by_latest : (s : Millis) → o.by ≡ At s → (until : ℕ) → s.0 < until → until ≤ row.length.0
+  pub by_latest : (s : Millis) → o.by ≡ Some s → (until : ℕ) → s.0 < until → until ≤ row.length.0
       → (more : List Event) (active passive : Kopecks) → NoneRefused paper b (ending more active passive)
       → ((m : ℕ) → present events ≤ m → m < until → kept_then row opening.spread events more m ≡ false)
       → cell_met paper (cell_left b place more active passive) ≡ false
   -- by, never: whatever events and close follow, the cell is failed
-  pub by_never : o.by ≡ Never → (more : List Event) (active passive : Kopecks) → NoneRefused paper b (ending more active passive)
+  pub by_never : o.by ≡ None → (more : List Event) (active passive : Kopecks) → NoneRefused paper b (ending more active passive)
       → cell_met paper (cell_left b place more active passive) ≡ false
   -- full, a number of milliseconds: quoting again at once and closing (which is accepted, below) keeps so many of the remaining ones or
   -- more, and leaves the full weight ..
-  pub full_reached : (n : Millis) → o.full ≡ At n
+  pub full_reached : (n : Millis) → o.full ≡ Some n
       → (n.0 ≤ kept_of_rest row opening.spread events (back_at row events (present events)))
       × (cell_weight paper (cell_left b place (back_at row events (present events)) (kopecks 0) (kopecks 0)) ≡ full_weight)
   -- .. no list that keeps fewer leaves it ..
-  pub full_needed : (n : Millis) → o.full ≡ At n
+  pub full_needed : (n : Millis) → o.full ≡ Some n
       → (more : List Event) (active passive : Kopecks) → NoneRefused paper b (ending more active passive)
       → cell_weight paper (cell_left b place more active passive) ≡ full_weight → n.0 ≤ kept_of_rest row opening.spread events more
   -- .. and so many are enough for it, where the cell's lapses are not too many
-  pub full_enough : (n : Millis) → o.full ≡ At n
+  pub full_enough : (n : Millis) → o.full ≡ Some n
       → (more : List Event) (active passive : Kopecks) → NoneRefused paper b (ending more active passive)
       → within_lapse_limit opening.allowed (cell_left b place more active passive).lapses ≡ true
       → n.0 ≤ kept_of_rest row opening.spread events more → cell_weight paper (cell_left b place more active passive) ≡ full_weight
   -- full, never: whatever events and close follow, the weight is another
-  pub full_never : o.full ≡ Never → (more : List Event) (active passive : Kopecks) → NoneRefused paper b (ending more active passive)
+  pub full_never : o.full ≡ None → (more : List Event) (active passive : Kopecks) → NoneRefused paper b (ending more active passive)
       → cell_weight paper (cell_left b place more active passive) ≡ full_weight → ⊥
   -- lapses: the cell's are not too many exactly where so many may begin in the rest
   pub few_lapses : (more : List Event) (active passive : Kopecks) → NoneRefused paper b (ending more active passive)

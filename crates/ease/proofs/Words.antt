@@ -14,8 +14,8 @@ use Rattle.rules.specs.Units.{contracts}
 use Rattle.rules.specs.Rows.{row_of, good_row_for}
 use Rattle.rules.specs.Answers.{Outcome, accepted, refused, outcome_by}
 use Rattle.rules.specs.Causes.{cause, first_number, read_row}
-use Rattle.volatile.specs.declared.DayAnswer.{DayAnswer}
-use Rattle.volatile.specs.declared.DayAnswer.TheVariants.{Inside, Outside, Refused}
+use Rattle.std.specs.Prelude.{Result, Ok, Err}
+use Rattle.volatile.specs.declared.UnusablePrices.{UnusablePrices}
 use Rattle.volatile.specs.Answers.{shown_day}
 use Rattle.ease.specs.Easing.{most_a, most_b, doubled, halved, eased_row, words_of, eased_by, eased, eased_if, is_inside}
 
@@ -92,14 +92,14 @@ no : false ≡ true → ⊥
 no e = true≢false (sym e)
 
 module _ (spread : SpreadRule) (words : List ℕ) where
-  pub if_inside : (answer : DayAnswer) {shown : Outcome Bool} → shown_day answer ≡ shown → is_inside answer ≡ true → eased spread words ≡ eased_if shown spread words
+  pub if_inside : (answer : Result Bool UnusablePrices) {shown : Outcome Bool} → shown_day answer ≡ shown → is_inside answer ≡ true → eased spread words ≡ eased_if shown spread words
   unfolding eased_if
-  if_inside Inside e h = ap (λ (o : Outcome Bool). eased_if o spread words) e
-  if_inside Outside e h = absurd (no h)
-  if_inside Refused e h = absurd (no h)
+  if_inside (Ok true) e h = ap (λ (o : Outcome Bool). eased_if o spread words) e
+  if_inside (Ok false) e h = absurd (no h)
+  if_inside (Err _) e h = absurd (no h)
 
-  pub if_not : (answer : DayAnswer) {shown : Outcome Bool} → shown_day answer ≡ shown → is_inside answer ≡ false → words ≡ eased_if shown spread words
+  pub if_not : (answer : Result Bool UnusablePrices) {shown : Outcome Bool} → shown_day answer ≡ shown → is_inside answer ≡ false → words ≡ eased_if shown spread words
   unfolding eased_if
-  if_not Inside e h = absurd (no (sym h))
-  if_not Outside e h = ap (λ (o : Outcome Bool). eased_if o spread words) e
-  if_not Refused e h = ap (λ (o : Outcome Bool). eased_if o spread words) e
+  if_not (Ok true) e h = absurd (no (sym h))
+  if_not (Ok false) e h = ap (λ (o : Outcome Bool). eased_if o spread words) e
+  if_not (Err _) e h = ap (λ (o : Outcome Bool). eased_if o spread words) e

@@ -1,5 +1,5 @@
 -- Document 02, W12: the row inside a period.
-use Rattle.std.specs.Prelude.{ℕ, ◌+◌, ◌*◌, ◌/◌, min, List, [], ◌∷◌, Bool, true, false}
+use Rattle.std.specs.Prelude.{ℕ, ◌+◌, ◌*◌, ◌/◌, min, List, [], ◌∷◌, Bool, true, false, Result, Ok, Err}
 use Rattle.rules.specs.declared.Row.{Row}
 use Rattle.rules.specs.declared.SpreadRule.{SpreadRule}
 use Rattle.rules.specs.declared.SpreadRule.TheVariants.{Settled, OfStrike}
@@ -7,8 +7,7 @@ use Rattle.rules.specs.Terms.{paper}
 use Rattle.rules.specs.Units.{contracts}
 use Rattle.rules.specs.Answers.{Outcome, accepted, refused}
 use Rattle.rules.specs.Causes.{read_row}
-use Rattle.volatile.specs.declared.DayAnswer.{DayAnswer}
-use Rattle.volatile.specs.declared.DayAnswer.TheVariants.{Inside, Outside, Refused}
+use Rattle.volatile.specs.declared.UnusablePrices.{UnusablePrices}
 
 -- "refusal 2's limits": the greatest a and the greatest b that it passes, as `a_limit` and `b_limit` in proofs/Rows show
 abbrev pub most_a : ℕ
@@ -59,7 +58,6 @@ eased_if (accepted false) spread words = words
 eased_if (refused n) spread words = words
 
 -- whether the answer is that the day is inside
-abbrev pub is_inside : DayAnswer → Bool
-is_inside Inside = true
-is_inside Outside = false
-is_inside Refused = false
+abbrev pub is_inside : Result Bool UnusablePrices → Bool
+is_inside (Ok inside) = inside
+is_inside (Err unusable) = false

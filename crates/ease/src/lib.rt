@@ -1,29 +1,18 @@
 // The row of a day inside a period: a and b doubled, M halved, in the lent words.
 #![tactic(auto)]
 
-ghost use Rattle.std.specs.Prelude.{◌≡◌, ◌*◌, min, ◌≤◌};
+ghost use Rattle.std.specs.Prelude.{◌≡◌, ◌≤◌};
 ghost use Rattle.volatile.specs.Answers.{inside_of, shown_day};
 ghost use Rattle.ease.specs.Easing.{doubled, halved, eased, eased_if, is_inside};
 
-use rules::{RowRead, SpreadRule};
-use volatile::DayAnswer;
+use rules::SpreadRule;
+use volatile::UnusablePrices;
 
 // Halved, rounded up.
 fn half(n: u32) -> u32
     ensures { result ≡ halved n }
 {
-    n / 2 + n % 2
-}
-
-// Doubled, and set to the limit past it.
-fn twice(n: u32, most: u32) -> u32
-    requires { most ≤ 1000000 }
-    ensures { result ≡ min (2 * n) most }
-{
-    if most < n {
-        return most;
-    }
-    numbers::min(2 * n, most)
+    n.div_ceil(2)
 }
 
 // a or b for an open by SP; a strike leaves both unread, and they stay as they are.
@@ -32,7 +21,7 @@ fn double(spread: SpreadRule, most: u32, n: u32) -> u32
     ensures { result ≡ doubled spread most n }
 {
     match spread {
-        SpreadRule::Settled(_) => twice(n, most),
+        SpreadRule::Settled(_) => n.saturating_mul(2).min(most), // past the limit set to it
         SpreadRule::OfStrike(_) => n,
     }
 }
@@ -42,11 +31,10 @@ pub fn ease(words: &mut [u32], spread: SpreadRule)
     ensures { words.new ≡ eased spread words.old }
 {
     let read = row::read(&words[..], spread);
-    let RowRead::Read(row) = read else {
+    let Ok(row) = read else {
         return;
     };
-    let minimum = row.minimum;
-    let m = half(minimum.0);
+    let m = half(row.minimum.0);
     let a = double(spread, 100000, row.a);
     let b = double(spread, 1000000, row.b);
     words[3] = m;
@@ -54,14 +42,10 @@ pub fn ease(words: &mut [u32], spread: SpreadRule)
     words[5] = b;
 }
 
-fn is_inside(answer: DayAnswer) -> bool
+fn is_inside(answer: Result<bool, UnusablePrices>) -> bool
     ensures { result ≡ is_inside answer }
 {
-    match answer {
-        DayAnswer::Inside => true,
-        DayAnswer::Outside => false,
-        DayAnswer::Refused => false,
-    }
+    answer.unwrap_or(false)
 }
 
 // Easing the row of the day after the last price, where that day is inside a period.
@@ -70,7 +54,7 @@ pub fn ease_if_inside(
     spread: SpreadRule,
     prices: &[i32],
     threshold: u32,
-) -> DayAnswer
+) -> Result<bool, UnusablePrices>
     ensures answer { shown_day result ≡ inside_of prices.now threshold }
     ensures words { words.new ≡ eased_if (inside_of prices.now threshold) spread words.old }
 {

@@ -24,8 +24,7 @@ use Rattle.rules.proofs.Bounds.{event_bounds_more}
 use Rattle.record.specs.declared.Fields.{Fields}
 use Rattle.record.specs.Fields.{fields_for, good_fields, event_by, read_fields}
 use Rattle.record.proofs.Reading.{time_by, tick_by, fields_say}
-use Rattle.book.specs.declared.Sent.{Sent}
-use Rattle.book.specs.EventAnswered.{EventAnswered, FieldsAnswered}
+use Rattle.book.specs.EventAnswered.{Sent, EventAnswered, FieldsAnswered}
 use Rattle.order_table.specs.Table.{table_of, GoodOrders, Holding}
 use Rattle.book.specs.Events.{TableChanged, sent_to}
 use Rattle.clock.specs.declared.Duty.{Duty}

@@ -64,15 +64,15 @@ fn taken(duty: Duty, clock: Clock, table: &mut [u32], hints: &mut [u8], f: Field
     ensures { FieldsStepped duty clock (read_fields f) table.old table.new result × (0 < result.refusal → hints.new ≡ hints.old) }
 {
     let minimum = duty.minimum;
-    let sent = book::send(table, hints, f, minimum, duty.widest, clock.keeps);
-    let refusal = sent.refusal;
-    if 0 < refusal {
-        return refused(clock, refusal);
-    }
-    let t = f.t;
-    ClockAfter {
-        clock: clock::onward(clock, t, sent.keeps),
-        refusal: 0,
+    match book::send(table, hints, f, minimum, duty.widest, clock.keeps) {
+        Err(refusal) => refused(clock, u32::from(refusal)),
+        Ok(sent) => {
+            let t = f.t;
+            ClockAfter {
+                clock: clock::onward(clock, t, sent.keeps),
+                refusal: 0,
+            }
+        }
     }
 }
 

@@ -1,10 +1,10 @@
 -- A message of any type that passes every test of the frame: its body is what the fields after 35 say.
+use Rattle.std.proofs.Common.{Option, None, Some}
 use Prim.Native.Nat.{ℕ, ◌+◌, ◌-◌, ◌%◌, ◌<◌}
 use native.Mathlib.Omega.{arith}
 use mathlib.Core.Path.{◌≡◌, refl, sym, ap, ◌∙◌}
 use mathlib.Core.Bool.{Bool, true, false, not}
 use mathlib.Core.List.{List, [], ◌∷◌, ◌++◌}
-use mathlib.Core.Option.{Option, none, some}
 use borrow.Author.Tests.{eqb-true}
 use lib.Dec.{eqb}
 use lib.ListN.{length, take, drop, length-append}
@@ -29,20 +29,20 @@ use Rattle.fix_any_frame.proofs.AnyShapes.{kind_of, head_bytes}
 -- ---- the three first fields
 module _ (v w : List ℕ) (rest : List ℕ) (c : Counted v) (clean : clear w ≡ true) (some_type : 0 < length w) where
   three-fields : fields_of (56 ∷ 61 ∷ 70 ∷ 73 ∷ 88 ∷ 46 ∷ 52 ∷ 46 ∷ 52 ∷ 1 ∷ 57 ∷ 61 ∷ (v ++ (1 ∷ 51 ∷ 53 ∷ 61 ∷ (w ++ (1 ∷ rest)))))
-      ≡ add_field (some eight) (add_field (some (nine_of v)) (add_field (some (kind_of w)) (fields_of rest)))
+      ≡ add_field (Some eight) (add_field (Some (nine_of v)) (add_field (Some (kind_of w)) (fields_of rest)))
   unfolding good_tag all_digits clear
   three-fields =
       short_tag version_tag refl version refl (omega arith) (57 ∷ 61 ∷ (v ++ (1 ∷ 51 ∷ 53 ∷ 61 ∷ (w ++ (1 ∷ rest)))))
-      ∙ ap (add_field (some eight))
+      ∙ ap (add_field (Some eight))
       (short_tag length_tag refl v (digits_clear v c.digits) c.some (51 ∷ 53 ∷ 61 ∷ (w ++ (1 ∷ rest)))
-      ∙ ap (add_field (some (nine_of v))) (short_tag type_tag refl w clean some_type rest))
+      ∙ ap (add_field (Some (nine_of v))) (short_tag type_tag refl w clean some_type rest))
 
 module _ (b v w : List ℕ) (rest : List ℕ) (c : Counted v) (clean : clear w ≡ true) (some_type : 0 < length w)
     (H : b ≡ 56 ∷ 61 ∷ 70 ∷ 73 ∷ 88 ∷ 46 ∷ 52 ∷ 46 ∷ 52 ∷ 1 ∷ 57 ∷ 61 ∷ (v ++ (1 ∷ 51 ∷ 53 ∷ 61 ∷ (w ++ (1 ∷ rest)))))
     (L : is_number (in_digits v) (length w + length rest - 3) ≡ true)
     (T : drop (length b - 7) b ≡ tail_of (sum (take (length b - 7) b) % 256)) where
   -- with the fields after 35 and the last of them
-  module _ (rs : List Field) (q : fields_of rest ≡ some rs) (e : Ending) (h : ending_of rs ≡ some e) where
+  module _ (rs : List Field) (q : fields_of rest ≡ Some rs) (e : Ending) (h : ending_of rs ≡ Some e) where
     before : List ℕ
     before = fields_bytes (eight ∷ nine_of v ∷ kind_of w ∷ e.front)
 
@@ -120,16 +120,16 @@ module _ (b v w : List ℕ) (rest : List ℕ) (c : Counted v) (clean : clear w �
         by true = refl
         by false = refl
 
-  by_endings : (rs : List Field) → fields_of rest ≡ some rs → (o : Option Ending) → ending_of rs ≡ o
+  by_endings : (rs : List Field) → fields_of rest ≡ Some rs → (o : Option Ending) → ending_of rs ≡ o
       → any_framed_by eight (nine_of v) (kind_of w) o ≡ any_body_with w (closing_of o)
-  by_endings rs q none h = refl
-  by_endings rs q (some e) h = by_ending rs q e h
+  by_endings rs q None h = refl
+  by_endings rs q (Some e) h = by_ending rs q e h
 
   by_fields : (o : Option (List Field)) → fields_of rest ≡ o
-      → any_framed_in (add_field (some eight) (add_field (some (nine_of v)) (add_field (some (kind_of w)) o))) ≡ any_body_with w (closing_in o)
+      → any_framed_in (add_field (Some eight) (add_field (Some (nine_of v)) (add_field (Some (kind_of w)) o))) ≡ any_body_with w (closing_in o)
   unfolding any_framed
-  by_fields none q = refl
-  by_fields (some rs) q = by_endings rs q (ending_of rs) refl
+  by_fields None q = refl
+  by_fields (Some rs) q = by_endings rs q (ending_of rs) refl
 
   pub accepted : any_body_in b ≡ any_body_with w (closed rest)
   unfolding any_body_in closed

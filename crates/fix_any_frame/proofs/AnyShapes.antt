@@ -1,10 +1,10 @@
 -- The bytes of a message of any type whose frame is right.
+use Rattle.std.proofs.Common.{Option, None, Some}
 use Prim.Native.Nat.{ℕ, ◌%◌, ◌<◌}
 use native.Mathlib.Omega.{arith}
 use mathlib.Core.Path.{◌≡◌, refl, sym, ap, ◌∙◌}
 use mathlib.Core.Bool.{Bool, true, false}
 use mathlib.Core.List.{List, [], ◌∷◌, ◌++◌, append_assoc}
-use mathlib.Core.Option.{Option, none, some}
 use lib.ListN.{length}
 use Rattle.lists.specs.Lists.{sum}
 use Rattle.rules.specs.Digits.{in_digits, three_digits}
@@ -38,8 +38,8 @@ pub record AnyShape (b : List ℕ) : Type 0 where
   pub some_type : 0 < length type
   pub counted : is_number (in_digits nine) (length (fields_bytes (kind_of type ∷ front))) ≡ true
 
-module _ (b : List ℕ) (first size kind : Field) (e : Ending) (rest : List Field) (q : fields_of b ≡ some (first ∷ size ∷ kind ∷ rest))
-    (h : ending_of rest ≡ some e) (R : Right first size kind e.front e.last) where
+module _ (b : List ℕ) (first size kind : Field) (e : Ending) (rest : List Field) (q : fields_of b ≡ Some (first ∷ size ∷ kind ∷ rest))
+    (h : ending_of rest ≡ Some e) (R : Right first size kind e.front e.last) where
   is_kind_lem : kind ≡ kind_of kind.value
   is_kind_lem = λ i. record { tag = R.is_type i; value = kind.value }
 
@@ -73,33 +73,33 @@ module _ (b : List ℕ) (first size kind : Field) (e : Ending) (rest : List Fiel
         counted = sym (λ i. is_number (in_digits size.value) (length (fields_bytes (is_kind_lem i ∷ e.front)))) ∙ R.counts;
       }
 
-no_body : {x : AnyBody} → none ≡ some x → ⊥
+no_body : {x : AnyBody} → None ≡ Some x → ⊥
 no_body e = let z : ◌≡◌ {A = ℕ} 0 1 = cc in omega arith
 
-by_body : (b : List ℕ) (first size kind : Field) (e : Ending) (rest : List Field) → fields_of b ≡ some (first ∷ size ∷ kind ∷ rest) → ending_of rest ≡ some e
-    → (g : Bool) → good_frame first size kind e.front e.last ≡ g → (x : AnyBody) → any_body_by g kind e.front ≡ some x → AnyShape b
+by_body : (b : List ℕ) (first size kind : Field) (e : Ending) (rest : List Field) → fields_of b ≡ Some (first ∷ size ∷ kind ∷ rest) → ending_of rest ≡ Some e
+    → (g : Bool) → good_frame first size kind e.front e.last ≡ g → (x : AnyBody) → any_body_by g kind e.front ≡ Some x → AnyShape b
 by_body b first size kind e rest q h false G x E = absurd (no_body E)
 by_body b first size kind e rest q h true G x E = shaped b first size kind e rest q h (right first size kind e.front e.last G)
 
-by_ending : (b : List ℕ) (first size kind : Field) (rest : List Field) → fields_of b ≡ some (first ∷ size ∷ kind ∷ rest) → (o : Option Ending)
-    → ending_of rest ≡ o → (x : AnyBody) → any_framed_by first size kind o ≡ some x → AnyShape b
-by_ending b first size kind rest q none h x E = absurd (no_body E)
-by_ending b first size kind rest q (some e) h x E =
+by_ending : (b : List ℕ) (first size kind : Field) (rest : List Field) → fields_of b ≡ Some (first ∷ size ∷ kind ∷ rest) → (o : Option Ending)
+    → ending_of rest ≡ o → (x : AnyBody) → any_framed_by first size kind o ≡ Some x → AnyShape b
+by_ending b first size kind rest q None h x E = absurd (no_body E)
+by_ending b first size kind rest q (Some e) h x E =
     by_body b first size kind e rest q h (good_frame first size kind e.front e.last) refl x E
 
-by_fields : (b : List ℕ) (o : Option (List Field)) → fields_of b ≡ o → (x : AnyBody) → any_framed_in o ≡ some x → AnyShape b
+by_fields : (b : List ℕ) (o : Option (List Field)) → fields_of b ≡ o → (x : AnyBody) → any_framed_in o ≡ Some x → AnyShape b
 unfolding any_framed
-by_fields b none q x E = absurd (no_body E)
-by_fields b (some []) q x E = absurd (no_body E)
-by_fields b (some (f ∷ [])) q x E = absurd (no_body E)
-by_fields b (some (f ∷ g ∷ [])) q x E = absurd (no_body E)
-by_fields b (some (first ∷ size ∷ kind ∷ rest)) q x E = by_ending b first size kind rest q (ending_of rest) refl x E
+by_fields b None q x E = absurd (no_body E)
+by_fields b (Some []) q x E = absurd (no_body E)
+by_fields b (Some (f ∷ [])) q x E = absurd (no_body E)
+by_fields b (Some (f ∷ g ∷ [])) q x E = absurd (no_body E)
+by_fields b (Some (first ∷ size ∷ kind ∷ rest)) q x E = by_ending b first size kind rest q (ending_of rest) refl x E
 
 -- what no message with a right frame is has no body
-pub unshaped : (b : List ℕ) → (AnyShape b → ⊥) → any_body_in b ≡ none
+pub unshaped : (b : List ℕ) → (AnyShape b → ⊥) → any_body_in b ≡ None
 unfolding any_body_in
 unshaped b h = by (any_framed_in (fields_of b)) refl
   where
-    by : (o : Option AnyBody) → any_framed_in (fields_of b) ≡ o → o ≡ none
-    by none e = refl
-    by (some x) e = absurd (h (by_fields b (fields_of b) refl x e))
+    by : (o : Option AnyBody) → any_framed_in (fields_of b) ≡ o → o ≡ None
+    by None e = refl
+    by (Some x) e = absurd (h (by_fields b (fields_of b) refl x e))

@@ -9,7 +9,7 @@ ghost use Rattle.fix_any_frame.specs.AnyFrames.{type_begins, AnyFrameFound};
 fn wide(b: u8) -> u32
     ensures { (result ≡ b) × (result < 256) }
 {
-    b as u32
+    u32::from(b)
 }
 
 // 35=, and a type of at least one byte
@@ -42,49 +42,50 @@ fn packed(b: &[u8], from: usize, to: usize) -> u32
     }
 }
 
-#[derive(Clone, Copy)]
-pub enum AnyFrame {
-    // The type, packed; the fields after 35, which end where 10 begins
-    Of { kind: u32, start: usize, end: usize },
-    Wrong,
+// The type, packed; the fields after 35, which end where 10 begins.
+#[derive(Clone, Copy, PartialEq, Eq)]
+pub struct AnyFrame {
+    pub kind: u32,
+    pub start: usize,
+    pub end: usize,
 }
 
 // What is before and after the fields, with length and checksum.
-pub fn frame_any(bytes: &[u8]) -> AnyFrame
+pub fn frame_any(bytes: &[u8]) -> Option<AnyFrame>
     ensures { AnyFrameFound bytes.now result }
 {
     let n = bytes.len();
     if n < 26 {
-        return AnyFrame::Wrong;
+        return None;
     }
     if bytes[n - 1] != 1 {
-        return AnyFrame::Wrong;
+        return None;
     }
     if !fix_frame::head_good(bytes) {
-        return AnyFrame::Wrong;
+        return None;
     }
     let nine = fix_fields::end_of(bytes, 12);
     if n - nine < 13 {
-        return AnyFrame::Wrong;
+        return None;
     }
     let end = n - 7;
     if !type_begins(bytes, nine + 1) {
-        return AnyFrame::Wrong;
+        return None;
     }
     let stop = fix_fields::end_of(bytes, nine + 5);
     if end <= stop {
-        return AnyFrame::Wrong;
+        return None;
     }
     if !fix_frame::length_good(&bytes[12..nine], end - (nine + 1)) {
-        return AnyFrame::Wrong;
+        return None;
     }
     if !fix_frame::tail_good(bytes, end, fix_digits::byte_sum(&bytes[..end])) {
-        return AnyFrame::Wrong;
+        return None;
     }
     let kind = packed(bytes, nine + 4, stop);
-    AnyFrame::Of {
+    Some(AnyFrame {
         kind,
         start: stop + 1,
         end,
-    }
+    })
 }

@@ -7,8 +7,9 @@ use native.Mathlib.Nat.{add_assoc, add-zero}
 use native.Mathlib.Omega.{arith}
 use lib.Dec.{eqb, leb}
 use lib.ListN.{length, get_or, take, drop, length-take, length-drop}
-use lib.Seq.{get_or-drop, get_or-take}
-use Rattle.rules.specs.Digits.{is_digit, number_from}
+use lib.Seq.{get_or-drop, get_or-take, drop-cons}
+use Rattle.std.proofs.Common.{add-one, drop_of_length-le}
+use Rattle.rules.specs.Digits.{is_digit, all_digits, number_from}
 use Rattle.rules.specs.Dates.{form, fits_place, has_form, part}
 use Rattle.lists.proofs.Lists.{both}
 use Rattle.fix_dates.specs.Internal.{DigitsAt}
@@ -105,6 +106,38 @@ digits_at v h from n fits l =
     inside : (i : ℕ) → i < n → i < length (take n (drop from form))
     inside i m = omega (arith, length-take n (drop from form), length-drop from form)
 
+-- ---- a number, digit after digit
+all_by : (w : List ℕ) → ((i : ℕ) → i < length w → is_digit (get_or w i 0) ≡ true) → all_digits w ≡ true
+unfolding all_digits
+all_by [] h = refl
+all_by (b ∷ bs) h = rw (h 0 (omega arith)) (all_by bs (λ i l. h (suc i) (omega arith)))
+
+pub all_there : (v : List ℕ) → has_form form v ≡ true → (from n : ℕ) → from + n ≤ 21 → letters (take n (drop from form)) ≡ true
+    → all_digits (take n (drop from v)) ≡ true
+all_there v h from n fits l =
+    let d = digits_at v h from n fits l in
+    all_by (take n (drop from v))
+    (λ i m.
+    let small : i < n = omega (arith, length-take n (drop from v)) in
+    rw (get_or-take n (drop from v) i 0 small, get_or-drop from v i 0) (d.digits i small))
+
+module _ (v : List ℕ) (i : ℕ) (h : i < length v) where
+  pub digit_here : all_digits (drop i v) ≡ true → is_digit (get_or v i 0) ≡ true
+  unfolding all_digits
+  digit_here d = (both (is_digit (get_or v i 0)) (all_digits (drop (suc i) v)) (rw (drop-cons v i 0) at d)).0
+
+  pub digits_on : all_digits (drop i v) ≡ true → all_digits (drop (i + 1) v) ≡ true
+  unfolding all_digits
+  digits_on d = rw add-one (both (is_digit (get_or v i 0)) (all_digits (drop (suc i) v)) (rw (drop-cons v i 0) at d)).1
+
+pub number_on : (v : List ℕ) (i n d : ℕ) → i < length v → d ≡ get_or v i 0 - 48 → number_from (n * 10 + d) (drop (i + 1) v) ≡ number_from n (drop i v)
+unfolding number_from
+number_on v i n d h e = rw (e, add-one, drop-cons v i 0) refl
+
+pub number-done : (v : List ℕ) (i n : ℕ) → length v ≤ i → n ≡ number_from n (drop i v)
+unfolding number_from
+number-done v i n h = rw (drop_of_length-le v h) refl
+
 -- ---- the numbers of two, three and four digits
 first_2 : (w : List ℕ) → 2 ≤ length w → take 2 w ≡ get_or w 0 0 ∷ get_or w 1 0 ∷ []
 first_2 [] h = absurd (omega arith)
@@ -129,15 +162,6 @@ module _ (v : List ℕ) (from : ℕ) where
 
   room : (n : ℕ) → from + n ≤ length v → n ≤ length (drop from v)
   room n h = rw (length-drop from v) (omega arith)
-
-  pub two_is : from + 2 ≤ length v → part v from 2 ≡ val v from * 10 + val v (from + 1)
-  unfolding number_from
-  two_is h =
-      rw (first_2 (drop from v) (room 2 h), here, get_or-drop from v 1 0)
-      (sums (val v from) (val v (from + 1)))
-    where
-      sums : (a b : ℕ) → (0 * 10 + a) * 10 + b ≡ a * 10 + b
-      sums a b = omega arith
 
   pub three_is : from + 3 ≤ length v → part v from 3 ≡ (val v from * 10 + val v (from + 1)) * 10 + val v (from + 2)
   unfolding number_from

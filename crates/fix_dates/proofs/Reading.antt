@@ -1,9 +1,9 @@
 -- What is read of a time, and what every time that was read keeps.
+use Rattle.std.proofs.Common.{Option, None, Some, Ok, ok_or}
 use Prim.Native.Nat.{ℕ, ◌+◌, ◌*◌, ◌-◌, ◌≤◌, ◌<◌}
 use mathlib.Core.Path.{◌≡◌, refl, sym, ap, ◌∙◌}
 use mathlib.Core.Bool.{Bool, true, false, ◌&&◌}
 use mathlib.Core.List.{List}
-use mathlib.Core.Option.{Option, none, some}
 use native.Mathlib.Omega.{arith}
 use lib.ListN.{length, get_or}
 use Rattle.rules.specs.declared.Timestamp.{Timestamp}
@@ -16,22 +16,22 @@ use Rattle.fix_digits.proofs.Numbers.{digit_to}
 use Rattle.fix_dates.specs.Internal.{DigitsAt}
 
 module _ (v : List ℕ) where
-  pub no_form : has_form form v ≡ false → none ≡ time_in v
+  pub no_form : has_form form v ≡ false → None ≡ time_in v
   unfolding time_in
   no_form h = rw h refl
 
-  pub other_length : (length v ≡ 21 → ⊥) → none ≡ time_in v
+  pub other_length : (length v ≡ 21 → ⊥) → None ≡ time_in v
   other_length h = no_form (by (has_form form v) refl)
     where
       by : (t : Bool) → has_form form v ≡ t → t ≡ false
       by true e = absurd (h (form-length form v e))
       by false e = refl
 
-  no_time : has_form form v ≡ true → good_date (parts_of v) && good_clock (parts_of v) ≡ false → none ≡ time_in v
+  no_time : has_form form v ≡ true → good_date (parts_of v) && good_clock (parts_of v) ≡ false → None ≡ time_in v
   unfolding time_in
   no_time h k = rw (h, k) refl
 
-  a_time : has_form form v ≡ true → good_date (parts_of v) && good_clock (parts_of v) ≡ true → some (parts_of v) ≡ time_in v
+  a_time : has_form form v ≡ true → good_date (parts_of v) && good_clock (parts_of v) ≡ true → Some (parts_of v) ≡ time_in v
   unfolding time_in
   a_time h k = rw (h, k) refl
 
@@ -57,10 +57,10 @@ thousandths_most v d =
     sums : (a b c : ℕ) → a ≤ 9 → b ≤ 9 → c ≤ 9 → (a * 10 + b) * 10 + c ≤ 999
     sums a b c h i j = omega arith
 
-never : {s : Timestamp} → none ≡ some s → ⊥
+never : {s : Timestamp} → None ≡ Some s → ⊥
 never q = let z : ◌≡◌ {A = ℕ} 0 1 = cc in omega arith
 
-some_is : {a b : Timestamp} → some a ≡ some b → a ≡ b
+some_is : {a b : Timestamp} → Some a ≡ Some b → a ≡ b
 some_is q = cc
 
 -- the tests passed, or nothing was read
@@ -70,7 +70,7 @@ record Passed (v : List ℕ) (s : Timestamp) : Type 0 where
   clock : good_clock s ≡ true
   parts : parts_of v ≡ s
 
-passed : (v : List ℕ) (s : Timestamp) → time_in v ≡ some s → Passed v s
+passed : (v : List ℕ) (s : Timestamp) → time_in v ≡ Some s → Passed v s
 passed v s e = by (has_form form v) (good_date (parts_of v) && good_clock (parts_of v)) refl refl
   where
     by : (a b : Bool) → has_form form v ≡ a → good_date (parts_of v) && good_clock (parts_of v) ≡ b → Passed v s
@@ -81,7 +81,7 @@ passed v s e = by (has_form form v) (good_date (parts_of v) && good_clock (parts
     by true false h k = absurd (never (no_time v h k ∙ e))
     by false b h k = absurd (never (no_form v h ∙ e))
 
-pub timed : (v : List ℕ) (s : Timestamp) → time_in v ≡ some s → Timed s
+pub timed : (v : List ℕ) (s : Timestamp) → time_in v ≡ Some s → Timed s
 unfolding parts_of
 timed v s e =
     let p = passed v s e in
@@ -92,17 +92,22 @@ timed v s e =
       thousandths = rw (sym (ap (λ (t : Timestamp). t.millis) p.parts)) (thousandths_most v (digits_at v p.formed 18 3 (omega arith) refl));
     }
 
+-- an answer where there was one
+pub told_some : {A E : Type 0} (o : Option A) (e : E) (x : A) → ok_or o e ≡ Ok x → o ≡ Some x
+told_some None e x h = absurd (let z : ◌≡◌ {A = ℕ} 0 1 = cc in omega arith)
+told_some (Some y) e x h = cc
+
 -- ---- one time from another
 module _ (start sixty : List ℕ) where
-  pub no_sixty : none ≡ time_in sixty → refused 21 ≡ since start sixty
+  pub no_sixty : None ≡ time_in sixty → refused 21 ≡ since start sixty
   unfolding since
   no_sixty h = rw (sym h) (by (time_in start))
     where
-      by : (o : Option Timestamp) → refused 21 ≡ moment_from o none
-      by none = refl
-      by (some t) = refl
+      by : (o : Option Timestamp) → refused 21 ≡ moment_from o None
+      by None = refl
+      by (Some t) = refl
 
-  pub with_sixty : (t : Timestamp) → some t ≡ time_in sixty → moment_from (time_in start) (some t) ≡ since start sixty
+  pub with_sixty : (t : Timestamp) → Some t ≡ time_in sixty → moment_from (time_in start) (Some t) ≡ since start sixty
   unfolding since
   with_sixty t h = ap (moment_from (time_in start)) h
 
@@ -111,8 +116,8 @@ module _ (v : List ℕ) (s : Timestamp) (a b : Bool) (is : s ≡ parts_of v) (d 
   tests : a && b ≡ good_date (parts_of v) && good_clock (parts_of v)
   tests = λ i. (d ∙ ap good_date is) i && (k ∙ ap good_clock is) i
 
-  pub found : a && b ≡ true → some s ≡ time_in v
-  found t = ap some is ∙ a_time v h (sym tests ∙ t)
+  pub found : a && b ≡ true → Some s ≡ time_in v
+  found t = ap Some is ∙ a_time v h (sym tests ∙ t)
 
-  pub lost : a && b ≡ false → none ≡ time_in v
+  pub lost : a && b ≡ false → None ≡ time_in v
   lost t = no_time v h (sym tests ∙ t)

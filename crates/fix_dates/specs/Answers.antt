@@ -1,20 +1,20 @@
--- What the answers about times show.
-use Rattle.std.proofs.Math.Option.{Option, none, some}
-use Rattle.rules.specs.declared.Timestamp.{Timestamp}
-use Rattle.rules.specs.Answers.{Outcome, accepted, refused}
-use Rattle.rules.specs.Dates.{Moment, before, at, late}
-use Rattle.fix_dates.specs.declared.Time.{Time}
-use Rattle.fix_dates.specs.declared.Time.TheVariants as T
-use Rattle.fix_dates.specs.declared.Elapsed.{Elapsed}
-use Rattle.fix_dates.specs.declared.Elapsed.TheVariants as E
+-- What a time from a start shows.
+use Rattle.std.specs.Prelude.{Result}
+use Rattle.rules.specs.declared.Refusal.{Refusal}
+use Rattle.rules.specs.Answers.{Outcome, accepted, shown}
+use Rattle.rules.specs.Dates as D
+use Rattle.fix_dates.specs.declared.Moment.{Moment}
+use Rattle.fix_dates.specs.declared.Moment.TheVariants as M
 
-abbrev pub shown_time : Time → Option Timestamp
-shown_time (T.At s) = some s
-shown_time T.Not = none
+abbrev pub shown_moment : Moment → D.Moment
+shown_moment M.Before = D.before
+shown_moment (M.At t) = D.at t.0
+shown_moment M.Late = D.late
+
+-- a time that is read
+abbrev pub timely : Moment → Outcome D.Moment
+timely m = accepted (shown_moment m)
 
 -- 21 where one of the two is no time
-abbrev pub shown_elapsed : Elapsed → Outcome Moment
-shown_elapsed (E.At t) = accepted (at t.0)
-shown_elapsed E.Before = accepted before
-shown_elapsed E.Late = accepted late
-shown_elapsed E.Unreadable = refused 21
+abbrev pub shown_elapsed : Result Moment Refusal → Outcome D.Moment
+shown_elapsed = shown shown_moment

@@ -1,24 +1,15 @@
 // Times of the form YYYYMMDD-HH:MM:SS.sss, and the milliseconds from one to another.
 #![tactic(auto)]
 
-ghost use Rattle.std.specs.Prelude.{◌≡◌, true, ◌&&◌, ◌||◌, eqb, ◌+◌, ◌-◌, ◌≤◌, ◌<◌, length, get_or, if◌then◌else◌};
-ghost use Rattle.std.proofs.Math.Option.{some};
-ghost use Rattle.rules.specs.Answers.{accepted};
-ghost use Rattle.rules.specs.Digits.{is_digit};
-ghost use Rattle.rules.specs.Dates.{form, has_form, part, parts_of, is_leap, month_days, good_date, good_clock, time_in, days_of_years, days_of_months, days_before, instant_of, moment_between, moment_of, moment_from, since as sinceOf};
-ghost use Rattle.fix_dates.specs.Answers.{shown_time, shown_elapsed};
+ghost use Rattle.std.specs.Prelude.{◌≡◌, true, ◌&&◌, ◌||◌, eqb, ◌+◌, ◌-◌, ◌≤◌, ◌<◌, length, get_or, if◌then◌else◌, Some};
+ghost use Rattle.rules.specs.Digits.{is_digit, all_digits, number_from};
+ghost use Rattle.rules.specs.Dates.{form, has_form, parts_of, is_leap, month_days, good_date, good_clock, time_in, days_of_years, days_of_months, days_before, instant_of, moment_between, moment_of, moment_from, since as sinceOf};
+ghost use Rattle.fix_dates.specs.Answers.{shown_moment, shown_elapsed};
 ghost use Rattle.fix_dates.specs.Times.{Timed};
-ghost use Rattle.fix_dates.specs.Internal.{DigitsAt, clock_of};
+ghost use Rattle.fix_dates.specs.Internal.{clock_of};
 
 use fix_digits::is_digit;
-use rules::{Millis, Timestamp};
-
-// What 21 bytes say, or that they say no time.
-#[derive(Clone, Copy)]
-pub enum Time {
-    At(Timestamp),
-    Not,
-}
+use rules::{Millis, Refusal, Timestamp};
 
 fn two_digits(v: &[u8], at: usize) -> bool
     requires { at + 1 < length v.now }
@@ -51,43 +42,35 @@ fn digit(b: u8) -> u32
     requires { is_digit b ≡ true }
     ensures { (result ≡ b - 48) × (result ≤ 9) }
 {
-    (b - 48) as u32
+    u32::from(b - 48)
 }
 
-// The number of two digits, of three, of four.
-fn two(v: &[u8], at: usize) -> u32
-    requires { DigitsAt v.now at 2 }
-    ensures { (result ≡ part v.now at 2) × (result ≤ 99) }
+// The number that at most four digits make.
+fn number(digits: &[u8]) -> u32
+    requires few { length digits.now ≤ 4 }
+    requires digits { all_digits digits.now ≡ true }
+    ensures { result ≡ number_from 0 digits.now }
 {
-    digit(v[at]) * 10 + digit(v[at + 1])
-}
-
-fn three(v: &[u8], at: usize) -> u32
-    requires { DigitsAt v.now at 3 }
-    ensures { result ≡ part v.now at 3 }
-{
-    two(v, at) * 10 + digit(v[at + 2])
-}
-
-fn four(v: &[u8], at: usize) -> u32
-    requires { DigitsAt v.now at 4 }
-    ensures { result ≡ part v.now at 4 }
-{
-    two(v, at) * 100 + two(v, at + 2)
+    let mut n = 0;
+    for b in digits {
+        n = n * 10 + digit(*b);
+    }
+    n
 }
 
 fn parts(v: &[u8]) -> Timestamp
-    requires { has_form form v.now ≡ true }
+    requires length { length v.now ≡ 21 }
+    requires formed { has_form form v.now ≡ true }
     ensures { result ≡ parts_of v.now }
 {
     Timestamp {
-        year: four(v, 0),
-        month: two(v, 4),
-        day: two(v, 6),
-        hour: two(v, 9),
-        minute: two(v, 12),
-        second: two(v, 15),
-        millis: three(v, 18),
+        year: number(&v[0..4]),
+        month: number(&v[4..6]),
+        day: number(&v[6..8]),
+        hour: number(&v[9..11]),
+        minute: number(&v[12..14]),
+        second: number(&v[15..17]),
+        millis: number(&v[18..21]),
     }
 }
 
@@ -145,20 +128,20 @@ fn clock_good(s: Timestamp) -> bool
 }
 
 // The time that bytes say.
-pub fn time_in(v: &[u8]) -> Time
-    ensures { shown_time result ≡ time_in v.now }
+pub fn time_in(v: &[u8]) -> Option<Timestamp>
+    ensures { result ≡ time_in v.now }
 {
     if v.len() != 21 {
-        return Time::Not;
+        return None;
     }
     if !formed(v) {
-        return Time::Not;
+        return None;
     }
     let s = parts(v);
     if date_good(s) & clock_good(s) {
-        return Time::At(s);
+        return Some(s);
     }
-    Time::Not
+    None
 }
 
 // The days from 1 January of year 1 to the first of a year.
@@ -173,10 +156,7 @@ fn before_year(y: u32) -> u32
 fn leap_day(y: u32) -> u32
     ensures { (result ≡ (if is_leap y then 1 else 0)) × (result ≤ 1) }
 {
-    if leap(y) {
-        return 1;
-    }
-    0
+    u32::from(leap(y))
 }
 
 // The days of a year before the first of a month.
@@ -220,67 +200,55 @@ fn in_day(s: Timestamp) -> u32
     ((s.hour * 60 + s.minute) * 60 + s.second) * 1000 + s.millis
 }
 
-fn wide(x: u32) -> u64
-    ensures { result ≡ x }
-{
-    x as u64
-}
-
 // The milliseconds from the start of 1 January of year 1.
 fn instant(s: Timestamp) -> u64
     requires { Timed s }
     ensures { result ≡ instant_of s }
 {
-    wide(days(s)) * 86400000 + wide(in_day(s))
+    u64::from(days(s)) * 86400000 + u64::from(in_day(s))
 }
 
 // A time from a start: before it, so many milliseconds later, or more than 32 bits of them.
-#[derive(Clone, Copy)]
-pub enum Elapsed {
-    At(Millis),
+#[derive(Clone, Copy, PartialEq, Eq)]
+pub enum Moment {
     Before,
+    At(Millis),
     Late,
-    Unreadable,
 }
 
-fn between(start: u64, time: u64) -> Elapsed
-    ensures { shown_elapsed result ≡ accepted (moment_between start time) }
+fn between(start: u64, time: u64) -> Moment
+    ensures { shown_moment result ≡ moment_between start time }
 {
     if time < start {
-        return Elapsed::Before;
+        return Moment::Before;
     }
-    let d = time - start;
-    if d < 4294967296 {
-        return Elapsed::At(Millis(d as u32));
+    match u32::try_from(time - start) {
+        Ok(t) => Moment::At(Millis(t)),
+        Err(_) => Moment::Late,
     }
-    Elapsed::Late
 }
 
 // One time from another, both as they are read.
-fn moment(start: Timestamp, time: Timestamp) -> Elapsed
+fn moment_of(start: Timestamp, time: Timestamp) -> Moment
     requires { Timed start × Timed time }
-    ensures { shown_elapsed result ≡ accepted (moment_of start time) }
+    ensures { shown_moment result ≡ moment_of start time }
 {
     between(instant(start), instant(time))
 }
 
 // A time from the quantum's start, whose bytes may say none.
-pub fn after(start: &[u8], time: Timestamp) -> Elapsed
+pub fn after(start: &[u8], time: Timestamp) -> Result<Moment, Refusal>
     requires { Timed time }
-    ensures { shown_elapsed result ≡ moment_from (time_in start.now) (some time) }
+    ensures { shown_elapsed result ≡ moment_from (time_in start.now) (Some time) }
 {
-    let Time::At(from) = time_in(start) else {
-        return Elapsed::Unreadable;
-    };
-    moment(from, time)
+    let from = time_in(start).ok_or(Refusal::FieldWrong)?;
+    Ok(moment_of(from, time))
 }
 
 // The same where the time is bytes too.
-pub fn since(start: &[u8], sixty: &[u8]) -> Elapsed
+pub fn since(start: &[u8], sixty: &[u8]) -> Result<Moment, Refusal>
     ensures { shown_elapsed result ≡ sinceOf start.now sixty.now }
 {
-    let Time::At(time) = time_in(sixty) else {
-        return Elapsed::Unreadable;
-    };
+    let time = time_in(sixty).ok_or(Refusal::FieldWrong)?;
     after(start, time)
 }

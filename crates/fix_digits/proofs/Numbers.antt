@@ -1,11 +1,10 @@
 -- Numbers in digits, as the loop reads them and as 32 bits hold them.
 use Rattle.std.specs.Prelude.{if◌then◌else◌}
-use Rattle.std.proofs.Common.{◌≡◌, ℕ, zero, suc, ◌+◌, ◌-◌, ◌*◌, ◌<◌, ◌≤◌, Bool, true, false, ◌&&◌, leb, List, [], ◌∷◌, length, get_or, take, drop, pos, negsuc, sym, refl, ap, ◌∙◌, true≢false, add-one, arith, drop_of_length-le, drop-cons, le-ltb, lt-ltb, eq-eqb, ne_eqb, le-leb, leb-false, leb-true}
-use mathlib.Core.Option.{Option, none, some}
-use lib.Seq.{take-length}
+use Rattle.std.proofs.Common.{◌≡◌, ℕ, zero, suc, ◌+◌, ◌-◌, ◌*◌, ◌<◌, ◌≤◌, Bool, true, false, ◌&&◌, leb, List, [], ◌∷◌, length, get_or, drop, pos, negsuc, sym, refl, ap, ◌∙◌, true≢false, add-one, arith, drop_of_length-le, drop-cons, le-ltb, lt-ltb, eq-eqb, ne_eqb, le-leb, leb-false, leb-true, Option, None, Some, option_map}
 use borrow.Author.Tests.{lt-leb}
+use Rattle.rules.specs.Units.{steps}
 use Rattle.rules.specs.Digits.{is_digit, all_digits, number_from, in_digits, word_within, positive, negative, steps_in}
-use Rattle.fix_digits.specs.Answers.{capped, capped_by}
+use Rattle.fix_digits.specs.Capped.{capped}
 use Rattle.fix_digits.specs.Internal.{more_of}
 
 -- ---- digits
@@ -78,27 +77,27 @@ module _ (v : List ℕ) (i : ℕ) where
   capped-end n h = rw (drop_of_length-le v h) refl
 
 -- ---- what is answered
-pub nothing : (v : List ℕ) → length v ≡ 0 → none ≡ capped_by (in_digits v)
+pub nothing : (v : List ℕ) → length v ≡ 0 → None ≡ option_map capped (in_digits v)
 unfolding in_digits
 nothing [] h = refl
 nothing (b ∷ bs) h = absurd (omega arith)
 
-pub no_number : (v : List ℕ) → all_digits v ≡ false → none ≡ capped_by (in_digits v)
+pub no_number : (v : List ℕ) → all_digits v ≡ false → None ≡ option_map capped (in_digits v)
 unfolding in_digits
 no_number [] h = refl
 no_number (b ∷ bs) h = rw h refl
 
-pub a-number : (v : List ℕ) (n : ℕ) → 0 < length v → all_digits v ≡ true → n ≡ capped (number_from 0 v) → some n ≡ capped_by (in_digits v)
+pub a-number : (v : List ℕ) (n : ℕ) → 0 < length v → all_digits v ≡ true → n ≡ capped (number_from 0 v) → Some n ≡ option_map capped (in_digits v)
 unfolding in_digits
 a-number [] n h d e = absurd (omega arith)
 a-number (b ∷ bs) n h d e = rw (d, e) refl
 
 -- ---- 32 bits: a capped number is within a bound of theirs where the number is, and then it is the number
-pub gone : (o : Option ℕ) → none ≡ capped_by o → o ≡ none
-gone none e = refl
-gone (some m) e = absurd (none_some e)
+pub gone : (o : Option ℕ) → None ≡ option_map capped o → o ≡ None
+gone None e = refl
+gone (Some m) e = absurd (none_some e)
   where
-    none_some : none ≡ some (capped m) → ⊥
+    none_some : None ≡ Some (capped m) → ⊥
     none_some q = let z : ◌≡◌ {A = ℕ} 0 1 = cc in omega arith
 
 module _ (n limit : ℕ) (small : limit ≤ 4294967296) where
@@ -106,76 +105,72 @@ module _ (n limit : ℕ) (small : limit ≤ 4294967296) where
   held_by m true e q h = sym q
   held_by m false e q h = absurd (omega arith)
 
-  pub held : (o : Option ℕ) → some n ≡ capped_by o → n ≤ limit → o ≡ some n
-  held none e h = absurd (let z : ◌≡◌ {A = ℕ} 0 1 = cc in omega arith)
-  held (some m) e h = ap some (held_by m (leb m 18446744073709551609) refl (cc) h)
+  pub held : (o : Option ℕ) → Some n ≡ option_map capped o → n ≤ limit → o ≡ Some n
+  held None e h = absurd (let z : ◌≡◌ {A = ℕ} 0 1 = cc in omega arith)
+  held (Some m) e h = ap Some (held_by m (leb m 18446744073709551609) refl (cc) h)
 
   above_by : (m : ℕ) (t : Bool) → leb m 18446744073709551609 ≡ t → n ≡ (if t then m else 18446744073709551615) → limit < n → limit < m
   above_by m true e q h = omega arith
   above_by m false e q h = omega (arith, leb-false m 18446744073709551609 e)
 
-  pub above : (o : Option ℕ) → some n ≡ capped_by o → limit < n → (m : ℕ) × (o ≡ some m) × (limit < m)
-  above none e h = absurd (let z : ◌≡◌ {A = ℕ} 0 1 = cc in omega arith)
-  above (some m) e h = (m, refl, above_by m (leb m 18446744073709551609) refl (cc) h)
+  pub above : (o : Option ℕ) → Some n ≡ option_map capped o → limit < n → (m : ℕ) × (o ≡ Some m) × (limit < m)
+  above None e h = absurd (let z : ◌≡◌ {A = ℕ} 0 1 = cc in omega arith)
+  above (Some m) e h = (m, refl, above_by m (leb m 18446744073709551609) refl (cc) h)
 
 module _ (o : Option ℕ) where
-  pub word-gone : none ≡ capped_by o → none ≡ word_within o
+  pub word-gone : None ≡ option_map capped o → None ≡ word_within o
   word-gone e = rw (gone o e) refl
 
-  pub word_held : (n : ℕ) → some n ≡ capped_by o → n ≤ 4294967295 → some n ≡ word_within o
+  pub word_held : (n : ℕ) → Some n ≡ option_map capped o → n ≤ 4294967295 → Some n ≡ word_within o
   word_held n e h = rw (held n 4294967295 (omega arith) o e h, lt-ltb n 4294967296 (omega arith)) refl
 
-  pub word-above : (n : ℕ) → some n ≡ capped_by o → 4294967295 < n → none ≡ word_within o
+  pub word-above : (n : ℕ) → Some n ≡ option_map capped o → 4294967295 < n → None ≡ word_within o
   word-above n e h =
       let a = above n 4294967295 (omega arith) o e h in
       rw (a.1, le-ltb a.0 4294967296 (omega (arith, a.2))) refl
 
-  pub positive-gone : none ≡ capped_by o → none ≡ positive o
+  pub positive-gone : None ≡ option_map capped o → None ≡ positive o
   positive-gone e = rw (gone o e) refl
 
-  pub positive-held : (n : ℕ) → some n ≡ capped_by o → n ≤ 2147483647 → some (pos n) ≡ positive o
+  pub positive-held : (n : ℕ) → Some n ≡ option_map capped o → n ≤ 2147483647 → Some (pos n) ≡ positive o
   positive-held n e h = rw (held n 2147483647 (omega arith) o e h, lt-ltb n 2147483648 (omega arith)) refl
 
-  pub positive-above : (n : ℕ) → some n ≡ capped_by o → 2147483647 < n → none ≡ positive o
+  pub positive-above : (n : ℕ) → Some n ≡ option_map capped o → 2147483647 < n → None ≡ positive o
   positive-above n e h =
       let a = above n 2147483647 (omega arith) o e h in
       rw (a.1, le-ltb a.0 2147483648 (omega (arith, a.2))) refl
 
-  pub negative-gone : none ≡ capped_by o → none ≡ negative o
+  pub negative-gone : None ≡ option_map capped o → None ≡ negative o
   negative-gone e = rw (gone o e) refl
 
 -- a number after a minus sign that is not zero
-pub minus : (n : ℕ) → (n ≡ 0 → ⊥) → n ≤ 2147483648 → some (negsuc (n - 1)) ≡ negative (some n)
+pub minus : (n : ℕ) → (n ≡ 0 → ⊥) → n ≤ 2147483648 → Some (negsuc (n - 1)) ≡ negative (Some n)
 minus zero h k = absurd (h refl)
-minus (suc n) h k = rw (lt-ltb n 2147483648 (omega arith)) (ap (λ (m : ℕ). some (negsuc m)) (omega arith))
+minus (suc n) h k = rw (lt-ltb n 2147483648 (omega arith)) (ap (λ (m : ℕ). Some (negsuc m)) (omega arith))
 
-minus_above : (n : ℕ) → 2147483648 < n → none ≡ negative (some n)
+minus_above : (n : ℕ) → 2147483648 < n → None ≡ negative (Some n)
 minus_above zero h = absurd (omega arith)
 minus_above (suc n) h = rw (le-ltb n 2147483648 (omega arith)) refl
 
-module _ (o : Option ℕ) (n : ℕ) (e : some n ≡ capped_by o) where
-  pub negative-held : n ≤ 2147483648 → negative (some n) ≡ negative o
+module _ (o : Option ℕ) (n : ℕ) (e : Some n ≡ option_map capped o) where
+  pub negative-held : n ≤ 2147483648 → negative (Some n) ≡ negative o
   negative-held h = ap negative (sym (held n 2147483648 (omega arith) o e h))
 
-  pub negative-above : 2147483648 < n → none ≡ negative o
+  pub negative-above : 2147483648 < n → None ≡ negative o
   negative-above h =
       let a = above n 2147483648 (omega arith) o e h in
       rw a.1 (minus_above a.0 a.2)
 
 -- ---- a minus sign first, or none
-pub no_steps : (v : List ℕ) → length v ≡ 0 → none ≡ steps_in v
+pub no_steps : (v : List ℕ) → length v ≡ 0 → None ≡ option_map steps (steps_in v)
 unfolding steps_in
 no_steps [] h = refl
 no_steps (b ∷ bs) h = absurd (omega arith)
 
-pub minus_steps : (v : List ℕ) → 0 < length v → get_or v 0 0 ≡ 45 → negative (in_digits (take (length v - 1) (drop 1 v))) ≡ steps_in v
+pub minus_steps : (b : ℕ) (bs : List ℕ) → b ≡ 45 → negative (in_digits bs) ≡ steps_in (b ∷ bs)
 unfolding steps_in
-minus_steps [] h e = absurd (omega arith)
-minus_steps (b ∷ bs) h e =
-    let n : length (b ∷ bs) - 1 ≡ length bs = omega arith in
-    rw (n, take-length bs, eq-eqb b 45 e) refl
+minus_steps b bs e = rw (eq-eqb b 45 e) refl
 
-pub plain_steps : (v : List ℕ) → 0 < length v → (get_or v 0 0 ≡ 45 → ⊥) → positive (in_digits v) ≡ steps_in v
+pub plain_steps : (b : ℕ) (bs : List ℕ) → (b ≡ 45 → ⊥) → positive (in_digits (b ∷ bs)) ≡ steps_in (b ∷ bs)
 unfolding steps_in
-plain_steps [] h e = absurd (omega arith)
-plain_steps (b ∷ bs) h e = rw (ne_eqb b 45 e) refl
+plain_steps b bs e = rw (ne_eqb b 45 e) refl

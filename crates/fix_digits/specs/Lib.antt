@@ -1,3 +1,3 @@
--- What the answers show. Internal is only what private functions promise each other.
-pub mod Answers
+-- A number as 64 bits hold it. Internal is only what private functions promise each other.
+pub mod Capped
 pub mod Internal

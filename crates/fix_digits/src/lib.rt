@@ -1,11 +1,11 @@
 // Numbers in digits, and the sum of bytes that a message carries.
 #![tactic(auto)]
 
-ghost use Rattle.std.specs.Prelude.{◌≡◌, ◌-◌, ◌%◌, ◌≤◌, true};
-ghost use Rattle.std.proofs.Math.Option.{some};
+ghost use Rattle.std.specs.Prelude.{◌≡◌, ◌-◌, ◌%◌, ◌≤◌, true, option_map};
 ghost use Rattle.lists.specs.Lists.{sum};
+ghost use Rattle.rules.specs.Units.{steps};
 ghost use Rattle.rules.specs.Digits.{is_digit, in_digits, word_in, steps_in, positive, negative};
-ghost use Rattle.fix_digits.specs.Answers.{shown_number, shown_unsigned, shown_signed, capped_by};
+ghost use Rattle.fix_digits.specs.Capped.{capped};
 ghost use Rattle.fix_digits.specs.Internal.{more_of};
 
 use rules::Steps;
@@ -21,7 +21,7 @@ fn value(b: u8) -> u64
     requires { is_digit b ≡ true }
     ensures { (result ≡ b - 48) × (result ≤ 9) }
 {
-    (b - 48) as u64
+    u64::from(b - 48)
 }
 
 // A number with one digit more; the greatest word once the number is past 18,446,744,073,709,551,609.
@@ -32,120 +32,67 @@ fn more(n: u64, d: u64) -> u64
     if n <= 1844674407370955160 {
         return n * 10 + d;
     }
-    18446744073709551615
-}
-
-#[derive(Clone, Copy)]
-pub enum Number {
-    Is(u64),
-    Not,
+    u64::MAX
 }
 
 // A number in digits, at least one, leading zeros allowed. Past 18,446,744,073,709,551,609 it is the greatest word: no length of
 // bytes and no number of 32 bits is that.
-pub fn number_in(v: &[u8]) -> Number
-    ensures { shown_number result ≡ capped_by (in_digits v.now) }
+pub fn number_in(v: &[u8]) -> Option<u64>
+    ensures { result ≡ option_map capped (in_digits v.now) }
 {
-    if v.len() == 0 {
-        return Number::Not;
+    if v.is_empty() {
+        return None;
     }
     let mut n: u64 = 0;
-    let mut i = 0;
-    while i < v.len() {
-        let b = v[i];
-        if !is_digit(b) {
-            return Number::Not;
+    for b in v {
+        if !is_digit(*b) {
+            return None;
         }
-        n = more(n, value(b));
-        i += 1;
+        n = more(n, value(*b));
     }
-    Number::Is(n)
-}
-
-#[derive(Clone, Copy)]
-pub enum Unsigned {
-    Is(u32),
-    Not,
+    Some(n)
 }
 
 // A number of 32 bits.
-pub fn word_in(v: &[u8]) -> Unsigned
-    ensures { shown_unsigned result ≡ word_in v.now }
+pub fn word_in(v: &[u8]) -> Option<u32>
+    ensures { result ≡ word_in v.now }
 {
-    let Number::Is(n) = number_in(v) else {
-        return Unsigned::Not;
-    };
-    if n <= 4294967295 {
-        return Unsigned::Is(n as u32);
-    }
-    Unsigned::Not
-}
-
-#[derive(Clone, Copy)]
-pub enum Signed {
-    Is(Steps),
-    Not,
+    u32::try_from(number_in(v)?).ok()
 }
 
 // The digits where no minus sign is before them.
-fn positive_in(v: &[u8]) -> Signed
-    ensures { shown_signed result ≡ positive (in_digits v.now) }
+fn positive_in(v: &[u8]) -> Option<i32>
+    ensures { result ≡ positive (in_digits v.now) }
 {
-    let Number::Is(n) = number_in(v) else {
-        return Signed::Not;
-    };
-    if n <= 2147483647 {
-        return Signed::Is(Steps(n as i32));
-    }
-    Signed::Not
+    i32::try_from(number_in(v)?).ok()
 }
 
-// A number after a minus sign; zero has none.
-fn minus(n: u64) -> Signed
-    requires { n ≤ 2147483648 }
-    ensures { shown_signed result ≡ negative (some n) }
+// The digits after a minus sign; zero has none.
+fn negative_in(v: &[u8]) -> Option<i32>
+    ensures { result ≡ negative (in_digits v.now) }
 {
-    match n {
-        0 => Signed::Not,
-        _ => Signed::Is(Steps(-1 - ((n - 1) as i32))),
+    match number_in(v)? {
+        0 => None,
+        n => Some(-1 - i32::try_from(n - 1).ok()?),
     }
-}
-
-// The digits after a minus sign.
-fn negative_in(v: &[u8]) -> Signed
-    ensures { shown_signed result ≡ negative (in_digits v.now) }
-{
-    let Number::Is(n) = number_in(v) else {
-        return Signed::Not;
-    };
-    if n <= 2147483648 {
-        return minus(n);
-    }
-    Signed::Not
 }
 
 // A signed number of 32 bits; zero has no minus sign.
-pub fn steps_in(v: &[u8]) -> Signed
-    ensures { shown_signed result ≡ steps_in v.now }
+pub fn steps_in(v: &[u8]) -> Option<Steps>
+    ensures { result ≡ option_map steps (steps_in v.now) }
 {
-    if v.len() == 0 {
-        return Signed::Not;
-    }
-    if v[0] == 45 {
-        return negative_in(&v[1..]);
-    }
-    positive_in(v)
+    let (first, rest) = v.split_first()?;
+    let n = if *first == b'-' {
+        negative_in(rest)
+    } else {
+        positive_in(v)
+    };
+    n.map(Steps)
 }
 
 // The sum of the bytes, modulo 256: a pass of its own, which the compiler makes wide.
 pub fn byte_sum(bytes: &[u8]) -> u8
     ensures { result ≡ sum bytes.now % 256 }
 {
-    let mut s: u8 = 0;
-    let mut i = 0;
-    while i < bytes.len() {
-        s = std::num::wrapping_add_u8(s, bytes[i]);
-        i += 1;
-    }
-    s
+    bytes.iter().fold(0, |s: u8, b| s.wrapping_add(*b))
 }

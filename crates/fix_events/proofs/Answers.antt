@@ -1,4 +1,5 @@
 -- A call on a quantum, open or idle, of every book that has it: refused, or an event.
+use Rattle.std.proofs.Common.{Ok}
 use Prim.Native.Nat.{ℕ, zero, suc, ◌≤◌}
 use native.Mathlib.Omega.{arith}
 use mathlib.Core.Path.{◌≡◌, refl, ap, sym, ◌∙◌, subst}
@@ -9,7 +10,6 @@ use Rattle.rules.specs.declared.Row.{Row}
 use Rattle.rules.specs.declared.SpreadRule.TheVariants.{Settled}
 use Rattle.rules.specs.declared.Opening.{Opening}
 use Rattle.rules.specs.declared.Event.{Event}
-use Rattle.rules.specs.declared.Answer.TheVariants.{Accepted}
 use Rattle.rules.specs.declared.Refusal.{Refusal}
 use Rattle.rules.specs.declared.Refusal.TheVariants.{NoQuantumOpen}
 use Rattle.rules.specs.Units.{steps}
@@ -147,7 +147,7 @@ between q running e r a b k z =
     still Idle = refl
     still (Quoting place row opening events) = refl
 
-pub reached_between : (q : Quantum) (running : Bool) (e : Event) (r : AfterMessage) → Answered q running (Send e) r → r.answer ≡ Accepted
+pub reached_between : (q : Quantum) (running : Bool) (e : Event) (r : AfterMessage) → Answered q running (Send e) r → r.answer ≡ (Ok tt)
     → Reached q running → Reached r.quantum running
 unfolding answer_of
 reached_between q running e r a h k =

@@ -1,12 +1,11 @@
 -- A message, by the calls that it means: the quantum answers it as it answers them.
-use Rattle.std.specs.Prelude.{if◌then◌else◌}
+use Rattle.std.specs.Prelude.{if◌then◌else◌, Option, None, Some, Err, Ok}
 use Prim.Native.Nat.{ℕ, suc}
 use mathlib.Core.Path.{◌≡◌, refl, ap, sym, ◌∙◌, subst}
 use mathlib.Core.Bool.{Bool, true, false, not, ◌&&◌}
 use lib.IntN.{pos}
 use lib.ListN.{length}
 use mathlib.Core.List.{List, [], ◌∷◌}
-use mathlib.Core.Option.{Option, none, some}
 use Rattle.rules.specs.declared.Side.{Side}
 use Rattle.rules.specs.declared.Row.{Row}
 use Rattle.rules.specs.declared.SpreadRule.{SpreadRule}
@@ -16,7 +15,6 @@ use Rattle.rules.specs.declared.Steps.{Steps}
 use Rattle.rules.specs.declared.Event.{Event}
 use Rattle.rules.specs.declared.Order.{Order}
 use Rattle.rules.specs.declared.Timestamp.{Timestamp}
-use Rattle.rules.specs.declared.Answer.TheVariants.{Accepted, Refused}
 use Rattle.rules.specs.declared.Refusal.{Refusal}
 use Rattle.rules.specs.declared.Refusal.TheVariants.{NoQuantumOpen, TimeBackwards, TimePastEnd, FieldWrong}
 use Rattle.lists.specs.Lists.{any}
@@ -24,6 +22,8 @@ use Rattle.rules.specs.Units.{steps}
 use Rattle.rules.specs.Orders.{has_id, live, apply_all}
 use Rattle.rules.specs.Quotes.{same}
 use Rattle.rules.specs.Terms.{paper}
+use Rattle.rules.specs.declared.Refusal.TheVariants as V
+use Rattle.std.proofs.Common.{◌-◌}
 use Rattle.rules.specs.Answers.{Outcome, accepted, refused, done, number_of, shown_answer}
 use Rattle.rules.specs.Dates.{time_in, Moment, before, at, late, moment_from}
 use Rattle.rules.specs.Messages as M
@@ -36,9 +36,9 @@ use Rattle.rules.proofs.Answers.{accepted_by, refused_by}
 use Rattle.rules.proofs.Refusals.{answer-accepted}
 use Rattle.rules.proofs.Bounds.{event_bounds_none}
 use Rattle.rules.proofs.MessageCalls.{unread, wrong_side, none_open, early, past, events_are, one-refusal, one_answer, one-step, first_refused, second-refusal, both-step}
-use Rattle.fix_dates.specs.declared.Elapsed.{Elapsed}
-use Rattle.fix_dates.specs.declared.Elapsed.TheVariants as E
-use Rattle.fix_dates.specs.Answers.{shown_elapsed}
+use Rattle.fix_dates.specs.declared.Moment as F
+use Rattle.fix_dates.specs.declared.Moment.TheVariants as E
+use Rattle.fix_dates.specs.Answers.{timely}
 use Rattle.quantum.specs.declared.Quantum.{Quantum}
 use Rattle.quantum.specs.Represents.{idle_row, quantum_of, quantum_in}
 use Rattle.fix_events.specs.declared.AfterMessage.{AfterMessage}
@@ -47,19 +47,6 @@ use Rattle.fix_events.specs.Internal.{unchanged, at_time, MessageAnswered, BothO
 use Rattle.fix_events.proofs.Answers.{halted, stopped, between}
 
 -- what the reader and the clock said is what the message is
-pub read_at : (start bytes : List ℕ) (m : M.Message Timestamp) (when : Outcome Moment) → accepted m ≡ M.read_message bytes
-    → when ≡ moment_from (time_in start) (some (M.time_of m)) → message_in start bytes ≡ at_time (M.with_time m) when
-unfolding message_in
-read_at start bytes m when r w = ap (timed start) (sym r) ∙ go (time_in start) ∙ ap (at_time (M.with_time m)) (sym w)
-  where
-    go : (o : Option Timestamp) → timed_from o m ≡ at_time (M.with_time m) (moment_from o (some (M.time_of m)))
-    go none = refl
-    go (some s) = refl
-
-pub unread_is : (start bytes : List ℕ) (n : ℕ) → refused n ≡ M.read_message bytes → message_in start bytes ≡ refused n
-unfolding message_in
-unread_is start bytes n r = ap (timed start) (sym r)
-
 -- the open quantum is asked for the side, or the idle one, which has no orders
 pub side_is : (q : Quantum) (running : Bool) (side : Side) (id : ℕ) (r : Bool)
     → ((row : Row) (sp : SpreadRule) (events : List Event) → EventBounds row events → q ≡ quantum_of row sp events
@@ -74,9 +61,36 @@ side_is q running side id r found new volume price t b k = go b.running k.bounde
     go Idle g e = found idle_row (Settled (steps (pos 0))) [] (event_bounds_none idle_row) e
     go (Quoting place row opening events) g e = found row opening.spread events g.1 e
 
+-- a refusal's number is not 0
+pub numbered : (f : Refusal) → number_of f ≡ suc (number_of f - 1)
+numbered V.RowNotSevenWords = refl
+numbered V.RowWordOutOfRange = refl
+numbered V.ArgumentOutOfRange = refl
+numbered V.CellFilled = refl
+numbered V.CellBlank = refl
+numbered V.QuantumOpen = refl
+numbered V.NoQuantumOpen = refl
+numbered V.TimeBackwards = refl
+numbered V.TimePastEnd = refl
+numbered V.IdLive = refl
+numbered V.IdNotLive = refl
+numbered V.PriceOrVolumeOutOfRange = refl
+numbered V.TooManyOrders = refl
+numbered V.DealAboveLeft = refl
+numbered V.BadRecord = refl
+numbered V.BufferShort = refl
+numbered V.LapseLimitOutOfRange = refl
+numbered V.StrikesOutOfRange = refl
+numbered V.WrongTicket = refl
+numbered V.FrameWrong = refl
+numbered V.FieldWrong = refl
+
 module _ (q : Quantum) (running : Bool) (start bytes : List ℕ) where
   pub message_unread : (f : Refusal) (n : ℕ) → number_of f ≡ suc n → message_in start bytes ≡ refused (suc n) → Answered q running (Message start bytes) (unchanged q f)
   message_unread f n e h = stopped q running (Message start bytes) f n e (λ b k. unread paper b start bytes (suc n) h)
+
+  pub message_refused : (f : Refusal) → message_in start bytes ≡ refused (number_of f) → Answered q running (Message start bytes) (unchanged q f)
+  message_refused f h = message_unread f (number_of f - 1) (numbered f) (h ∙ ap refused (numbered f))
 
   module _ (x : M.Message Moment) (h : message_in start bytes ≡ accepted x) where
     pub message_side : ((b : Book) → InBook q running b → other_side_in b.running x ≡ true) → Answered q running (Message start bytes) (unchanged q FieldWrong)
@@ -117,7 +131,7 @@ module _ (q : Quantum) (running : Bool) (start bytes : List ℕ) where
 
         -- ---- two calls
         module _ (first second : Event) (two : events_at x t ≡ first ∷ second ∷ []) (one : AfterMessage) (sent : Answered q running (Send first) one) where
-          pub message_first : (f : Refusal) → one.answer ≡ Refused f → Answered q running (Message start bytes) (unchanged q f)
+          pub message_first : (f : Refusal) → one.answer ≡ Err f → Answered q running (Message start bytes) (unchanged q f)
           unfolding answer_of
           message_first f e =
               halted q running (Message start bytes) f
@@ -125,7 +139,7 @@ module _ (q : Quantum) (running : Bool) (start bytes : List ℕ) where
               let (j, n, m) = refused_by (refusal_of paper b (Send first)) (number_of f) done (ap shown_answer (sym e) ∙ sent.answer b k) in
               (j, first_refused paper b start bytes x h (s b k) t time first second two j n, m))
 
-          module _ (taken : one.answer ≡ Accepted) where
+          module _ (taken : one.answer ≡ (Ok tt)) where
             passed_first : (b : Book) → InBook q running b → refusal_of paper b (Send first) ≡ 0
             unfolding answer_of
             passed_first b k = (accepted_by (refusal_of paper b (Send first)) done done (ap shown_answer (sym taken) ∙ sent.answer b k)).0
@@ -135,7 +149,7 @@ module _ (q : Quantum) (running : Bool) (start bytes : List ℕ) where
               on_between : (b : Book) → InBook q running b → InBook one.quantum running (step paper b (Send first))
               on_between b k = between q running first one sent b k (passed_first b k)
 
-              pub message_second : (f : Refusal) → other.answer ≡ Refused f → Answered q running (Message start bytes) (unchanged q f)
+              pub message_second : (f : Refusal) → other.answer ≡ Err f → Answered q running (Message start bytes) (unchanged q f)
               unfolding answer_of
               message_second f e =
                   halted q running (Message start bytes) f
@@ -144,7 +158,7 @@ module _ (q : Quantum) (running : Bool) (start bytes : List ℕ) where
                   let (j, n, m) = refused_by (refusal_of paper d (Send second)) (number_of f) done (ap shown_answer (sym e) ∙ added.answer d (on_between b k)) in
                   (j, second-refusal paper b start bytes x h (s b k) t time first second two (passed_first b k) ∙ n, m))
 
-              pub message_both : other.answer ≡ Accepted
+              pub message_both : other.answer ≡ (Ok tt)
                   → Answered q running (Message start bytes) (record { quantum = other.quantum; answer = other.answer; second = true })
               unfolding answer_of
               message_both e =
@@ -174,15 +188,14 @@ module _ (q : Quantum) (running : Bool) (say : Moment → M.Message Moment) wher
   said_unread r when w e start bytes h =
       subst (Answered q running (Message start bytes)) (sym e) (message_unread q running start bytes FieldWrong 20 refl (h ∙ ap (at_time say) w))
 
-  pub said_side : (r : AfterMessage) (when : Elapsed) → ((t : Moment) (b : Book) → InBook q running b → other_side_in b.running (say t) ≡ true)
-      → r ≡ unchanged q FieldWrong → MessageAnswered q running say (shown_elapsed when) r
+  pub said_side : (r : AfterMessage) (when : F.Moment) → ((t : Moment) (b : Book) → InBook q running b → other_side_in b.running (say t) ≡ true)
+      → r ≡ unchanged q FieldWrong → MessageAnswered q running say (timely when) r
   said_side r when s e start bytes h = subst (Answered q running (Message start bytes)) (sym e) (go when h)
     where
-      go : (w : Elapsed) → message_in start bytes ≡ at_time say (shown_elapsed w) → Answered q running (Message start bytes) (unchanged q FieldWrong)
+      go : (w : F.Moment) → message_in start bytes ≡ at_time say (timely w) → Answered q running (Message start bytes) (unchanged q FieldWrong)
       go (E.At t) h = message_side q running start bytes (say (at t.0)) h (s (at t.0))
       go E.Before h = message_side q running start bytes (say before) h (s before)
       go E.Late h = message_side q running start bytes (say late) h (s late)
-      go E.Unreadable h = message_unread q running start bytes FieldWrong 20 refl h
 
   module _ (times : (t : Moment) → M.time_of (say t) ≡ t) (right : (t : Moment) (b : Book) → InBook q running b → other_side_in b.running (say t) ≡ false) where
     pub said-early : (r : AfterMessage) (when : Outcome Moment) → when ≡ accepted before → r ≡ unchanged q (if running then TimeBackwards else NoQuantumOpen)

@@ -1,8 +1,7 @@
 -- What the functions of a message promise to each other.
-use Rattle.std.specs.Prelude.{ℕ, ◌≡◌, Bool, false, List, [], ◌∷◌}
+use Rattle.std.specs.Prelude.{ℕ, ◌≡◌, Bool, false, List, [], ◌∷◌, Err}
 use Rattle.rules.specs.declared.Event.{Event}
 use Rattle.rules.specs.declared.Refusal.{Refusal}
-use Rattle.rules.specs.declared.Answer.TheVariants.{Refused}
 use Rattle.rules.specs.Answers.{Outcome, accepted, refused}
 use Rattle.rules.specs.Dates.{Moment, at}
 use Rattle.rules.specs.Messages.{Message, time_of}
@@ -15,7 +14,7 @@ use Rattle.fix_events.specs.Answers.{InBook, Answered}
 
 -- a refusal, and the quantum as it was
 abbrev pub unchanged : Quantum → Refusal → AfterMessage
-unchanged q f = record { quantum = q; answer = Refused f; second = false }
+unchanged q f = record { quantum = q; answer = Err f; second = false }
 
 -- the message at a time, or why its time is none
 abbrev pub at_time : (Moment → Message Moment) → Outcome Moment → Outcome (Message Moment)
@@ -26,6 +25,10 @@ at_time say (accepted t) = accepted (say t)
 abbrev pub MessageAnswered : Quantum → Bool → (Moment → Message Moment) → Outcome Moment → AfterMessage → Type 0
 MessageAnswered q running say when r =
     (start bytes : List ℕ) → message_in start bytes ≡ at_time say when → Answered q running (B.Message start bytes) r
+
+-- the answer to every message that, with its start, is this one
+abbrev pub TimedAnswered : Quantum → Bool → Message Moment → AfterMessage → Type 0
+TimedAnswered q running m r = (start bytes : List ℕ) → message_in start bytes ≡ accepted m → Answered q running (B.Message start bytes) r
 
 -- the answer to every message that means these two events, on a book in which its side is right
 abbrev pub BothOrNeither : Quantum → Bool → Event → Event → AfterMessage → Type 0

@@ -3,24 +3,25 @@
 
 ghost use Rattle.std.specs.Prelude.{◌≡◌, ℕ, if◌then◌else◌};
 ghost use Rattle.rules.specs.declared.Refusal.TheVariants.{NoQuantumOpen};
-ghost use Rattle.rules.specs.Dates.{Moment};
+ghost use Rattle.rules.specs.Dates as D;
 ghost use Rattle.rules.specs.Messages.{new_order, cancel_order, replace_order};
 ghost use Rattle.rules.specs.Calls as B;
 ghost use Rattle.rules.specs.Causes.{other_side_in};
-ghost use Rattle.fix_dates.specs.Answers.{shown_elapsed};
+ghost use Rattle.fix_dates.specs.Answers.{timely};
+ghost use Rattle.fix_reader.specs.Answers.{timed_shown};
 ghost use Rattle.fix_events.specs.Answers.{InBook, Reached, Answered};
-ghost use Rattle.fix_events.specs.Internal.{unchanged, MessageAnswered, BothOrNeither};
+ghost use Rattle.fix_events.specs.Internal.{unchanged, MessageAnswered, TimedAnswered, BothOrNeither};
 
-use fix_dates::{Elapsed, after};
-use fix_reader::MessageRead;
+use fix_dates::Moment;
+use fix_reader::{Message, Timed};
 use quantum::Quantum;
-use rules::{Answer, Contracts, Event, Refusal, Side, Steps};
+use rules::{Contracts, Event, Refusal, Side, Steps};
 
 // What a message hands back: the quantum after it, the answer, and whether the accepted events are two.
 #[derive(Clone, Copy)]
 pub struct AfterMessage {
     pub quantum: Quantum,
-    pub answer: Answer,
+    pub answer: Result<(), Refusal>,
     pub second: bool,
 }
 
@@ -30,7 +31,7 @@ fn refused(quantum: Quantum, refusal: Refusal) -> AfterMessage
 {
     AfterMessage {
         quantum,
-        answer: Answer::Refused(refusal),
+        answer: Err(refusal),
         second: false,
     }
 }
@@ -67,17 +68,17 @@ fn send(quantum: Quantum, running: bool, e: Event) -> AfterMessage
 fn new_order(
     quantum: Quantum,
     running: bool,
-    when: Elapsed,
+    when: Moment,
     id: u32,
     side: Side,
     volume: Contracts,
     price: Steps,
 ) -> AfterMessage
     requires { Reached quantum running }
-    ensures { MessageAnswered quantum running (λ t. new_order id side volume price t) (shown_elapsed when) result }
+    ensures { MessageAnswered quantum running (λ t. new_order id side volume price t) (timely when) result }
 {
     match when {
-        Elapsed::At(t) => send(
+        Moment::At(t) => send(
             quantum,
             running,
             Event::Add {
@@ -88,22 +89,20 @@ fn new_order(
                 volume,
             },
         ),
-        Elapsed::Before => untimely(quantum, running, Refusal::TimeBackwards),
-        Elapsed::Late => untimely(quantum, running, Refusal::TimePastEnd),
-        Elapsed::Unreadable => refused(quantum, Refusal::FieldWrong),
+        Moment::Before => untimely(quantum, running, Refusal::TimeBackwards),
+        Moment::Late => untimely(quantum, running, Refusal::TimePastEnd),
     }
 }
 
 // F: the order that 41 names goes.
-fn cancel_order(quantum: Quantum, running: bool, when: Elapsed, id: u32, orig: u32) -> AfterMessage
+fn cancel_order(quantum: Quantum, running: bool, when: Moment, id: u32, orig: u32) -> AfterMessage
     requires { Reached quantum running }
-    ensures { MessageAnswered quantum running (λ t. cancel_order id orig t) (shown_elapsed when) result }
+    ensures { MessageAnswered quantum running (λ t. cancel_order id orig t) (timely when) result }
 {
     match when {
-        Elapsed::At(t) => send(quantum, running, Event::Cancel { t, id: orig }),
-        Elapsed::Before => untimely(quantum, running, Refusal::TimeBackwards),
-        Elapsed::Late => untimely(quantum, running, Refusal::TimePastEnd),
-        Elapsed::Unreadable => refused(quantum, Refusal::FieldWrong),
+        Moment::At(t) => send(quantum, running, Event::Cancel { t, id: orig }),
+        Moment::Before => untimely(quantum, running, Refusal::TimeBackwards),
+        Moment::Late => untimely(quantum, running, Refusal::TimePastEnd),
     }
 }
 
@@ -115,26 +114,26 @@ fn both_or_neither(quantum: Quantum, running: bool, first: Event, second: Event)
     let sent = send(quantum, running, first);
     let answer = sent.answer;
     let between = sent.quantum;
-    if let Answer::Refused(of_first) = answer {
+    if let Err(of_first) = answer {
         return refused(quantum, of_first);
     }
     let further = send(between, running, second);
     let last = further.answer;
     let after = further.quantum;
     match last {
-        Answer::Accepted => AfterMessage {
+        Ok(()) => AfterMessage {
             quantum: after,
             answer: last,
             second: true,
         },
-        Answer::Refused(of_second) => refused(quantum, of_second),
+        Err(of_second) => refused(quantum, of_second),
     }
 }
 
 // Whether the live order that a G's 41 names is not of its side.
 fn other_side(quantum: Quantum, running: bool, side: Side, id: u32) -> bool
     requires { Reached quantum running }
-    ensures { (new : ℕ) (volume : Contracts) (price : Steps) (t : Moment) (b : B.Book) → InBook quantum running b → result ≡ other_side_in b.running (replace_order new id side volume price t) }
+    ensures { (new : ℕ) (volume : Contracts) (price : Steps) (t : D.Moment) (b : B.Book) → InBook quantum running b → result ≡ other_side_in b.running (replace_order new id side volume price t) }
 {
     quantum.on_other_side(side, id)
 }
@@ -143,7 +142,7 @@ fn other_side(quantum: Quantum, running: bool, side: Side, id: u32) -> bool
 fn replace_order(
     quantum: Quantum,
     running: bool,
-    when: Elapsed,
+    when: Moment,
     id: u32,
     orig: u32,
     side: Side,
@@ -151,13 +150,13 @@ fn replace_order(
     price: Steps,
 ) -> AfterMessage
     requires { Reached quantum running }
-    ensures { MessageAnswered quantum running (λ t. replace_order id orig side volume price t) (shown_elapsed when) result }
+    ensures { MessageAnswered quantum running (λ t. replace_order id orig side volume price t) (timely when) result }
 {
     if other_side(quantum, running, side, orig) {
         return refused(quantum, Refusal::FieldWrong);
     }
     match when {
-        Elapsed::At(t) => both_or_neither(
+        Moment::At(t) => both_or_neither(
             quantum,
             running,
             Event::Cancel { t, id: orig },
@@ -169,9 +168,34 @@ fn replace_order(
                 volume,
             },
         ),
-        Elapsed::Before => untimely(quantum, running, Refusal::TimeBackwards),
-        Elapsed::Late => untimely(quantum, running, Refusal::TimePastEnd),
-        Elapsed::Unreadable => refused(quantum, Refusal::FieldWrong),
+        Moment::Before => untimely(quantum, running, Refusal::TimeBackwards),
+        Moment::Late => untimely(quantum, running, Refusal::TimePastEnd),
+    }
+}
+
+// A message that was read, at its time: its one or two calls.
+fn taken(q: Quantum, running: bool, timed: Timed) -> AfterMessage
+    requires { Reached q running }
+    ensures { TimedAnswered q running (timed_shown timed) result }
+{
+    let when = timed.when;
+    match timed.message {
+        Message::New {
+            id,
+            side,
+            volume,
+            price,
+            ..
+        } => new_order(q, running, when, id, side, volume, price),
+        Message::Cancel { id, orig, .. } => cancel_order(q, running, when, id, orig),
+        Message::Replace {
+            id,
+            orig,
+            side,
+            volume,
+            price,
+            ..
+        } => replace_order(q, running, when, id, orig, side, volume, price),
     }
 }
 
@@ -180,35 +204,8 @@ pub fn message(q: Quantum, running: bool, start: &[u8], message: &[u8]) -> After
     requires { Reached q running }
     ensures { Answered q running (B.Message start.now message.now) result }
 {
-    match fix_reader::read(message) {
-        MessageRead::New {
-            id,
-            side,
-            volume,
-            price,
-            time,
-        } => new_order(q, running, after(start, time), id, side, volume, price),
-        MessageRead::Cancel { id, orig, time } => {
-            cancel_order(q, running, after(start, time), id, orig)
-        }
-        MessageRead::Replace {
-            id,
-            orig,
-            side,
-            volume,
-            price,
-            time,
-        } => replace_order(
-            q,
-            running,
-            after(start, time),
-            id,
-            orig,
-            side,
-            volume,
-            price,
-        ),
-        MessageRead::FrameWrong => refused(q, Refusal::FrameWrong),
-        MessageRead::FieldWrong => refused(q, Refusal::FieldWrong),
+    match fix_reader::read_from(start, message) {
+        Ok(timed) => taken(q, running, timed),
+        Err(refusal) => refused(q, refusal),
     }
 }

@@ -8,7 +8,7 @@ use mathlib.Core.List.{List, [], ◌∷◌, ◌++◌, append_assoc}
 use lib.ListN.{length, get_or, drop}
 use lib.Seq.{drop-cons}
 use Rattle.rules.specs.Digits.{is_digit, all_digits}
-use Rattle.fix_fields.specs.Ends.{ClosedFrom}
+use Rattle.fix_fields.specs.Ends.{ClosedFrom, DigitsEnd}
 use Rattle.fix_fields.specs.Tags.{LongTag, ends, stops}
 use Rattle.fix_digits.proofs.Numbers.{both}
 use Rattle.fix_fields.proofs.Tags.{digit_not_one}
@@ -32,6 +32,9 @@ module _ (b : List ℕ) (from : ℕ) (C : ClosedFrom b from) where
   pub begins : DigitsUpTo b from from
   unfolding all_digits
   begins = record { digits = []; good = refl; passed = refl; inside = C.within }
+
+  pub up_to : (i : ℕ) → DigitsEnd b from i → DigitsUpTo b from i
+  up_to i E = record { digits = E.digits; good = E.good; passed = E.passed; inside = E.inside }
 
   module _ (i : ℕ) (P : DigitsUpTo b from i) where
     pub digit_more : is_digit (get_or b i 0) ≡ true → DigitsUpTo b from (i + 1)

@@ -1,11 +1,10 @@
 -- The bytes cut after each byte 1, and one field in front of the others.
-use Rattle.std.specs.Prelude.{if◌then◌else◌}
+use Rattle.std.specs.Prelude.{if◌then◌else◌, Option, None, Some}
 use Prim.Native.Nat.{ℕ, suc, ◌<◌}
 use native.Mathlib.Omega.{arith}
 use mathlib.Core.Path.{◌≡◌, refl, sym, ap, ◌∙◌}
 use mathlib.Core.Bool.{Bool, true, false, true≢false}
 use mathlib.Core.List.{List, [], ◌∷◌, ◌++◌}
-use mathlib.Core.Option.{Option, none, some}
 use borrow.Author.Tests.{ne_eqb, eqb-true}
 use lib.Dec.{eqb}
 use lib.ListN.{length, get_or}
@@ -95,21 +94,21 @@ unfolding pieces
 all_one [] h = refl
 all_one (b ∷ l) h = rw (clear-head b l h, all_one l (clear-tail b l h)) refl
 
-pub unended : (l : List ℕ) → (length l ≡ 0 → ⊥) → fields_in (l ∷ []) ≡ none
+pub unended : (l : List ℕ) → (length l ≡ 0 → ⊥) → fields_in (l ∷ []) ≡ None
 unfolding fields_in
 unended [] h = absurd (h refl)
 unended (b ∷ l) h = refl
 
-pub no_field : (o : Option Field) (fs : Option (List Field)) → o ≡ none → add_field o fs ≡ none
-no_field none none e = refl
-no_field none (some fs) e = refl
-no_field (some f) fs e = absurd (let z : ◌≡◌ {A = ℕ} 0 1 = cc in omega arith)
+pub no_field : (o : Option Field) (fs : Option (List Field)) → o ≡ None → add_field o fs ≡ None
+no_field None None e = refl
+no_field None (Some fs) e = refl
+no_field (Some f) fs e = absurd (let z : ◌≡◌ {A = ℕ} 0 1 = cc in omega arith)
 
 -- a first piece that is no field
-pub no_first : (l : List ℕ) → (length l ≡ 0 → ⊥) → field_of (piece_of l) ≡ none → fields_of l ≡ none
+pub no_first : (l : List ℕ) → (length l ≡ 0 → ⊥) → field_of (piece_of l) ≡ None → fields_of l ≡ None
 unfolding fields_of
 no_first l h e = by (cut_of l)
   where
-    by : Cut l → fields_of l ≡ none
+    by : Cut l → fields_of l ≡ None
     by (whole k) = ap fields_in (all_one l k) ∙ unended l h
     by (at v rest k q p) = ap fields_of q ∙ one_field v rest k ∙ no_field (field_of v) (fields_of rest) (ap field_of (sym p) ∙ e)

@@ -1,10 +1,10 @@
 -- The search for fields, turn by turn.
+use Rattle.std.proofs.Common.{None, Some}
 use Prim.Native.Nat.{ℕ, suc, ◌+◌, ◌-◌, ◌≤◌, ◌<◌}
 use native.Mathlib.Omega.{arith}
 use mathlib.Core.Path.{◌≡◌, refl, sym, ap, subst, ◌∙◌}
 use mathlib.Core.Bool.{Bool, true, false}
 use mathlib.Core.List.{List, [], ◌∷◌, ◌++◌, append-nil}
-use mathlib.Core.Option.{none, some}
 use borrow.Author.Tests.{eqb-true, eqb-false, leb-true, leb-false}
 use lib.Dec.{eqb, leb}
 use lib.ListN.{length, get_or, take, drop, replicate, length-drop, length-append, drop_of_length-le}
@@ -55,17 +55,17 @@ module _ (b : List ℕ) (start end : ℕ) (E : EndsAt b start end) where
 
   module _ (spans : List ℕ) (place : ℕ) (P : Progress b start spans place) where
     -- nothing good comes behind
-    pub stops : (r : Bool) → r ≡ false → closed (drop place b) ≡ none → SpansFound b start spans r
+    pub stops : (r : Bool) → r ≡ false → closed (drop place b) ≡ None → SpansFound b start spans r
     stops r e h = wrong e (P.so_far ∙ ap (all_in_front P.fs) h ∙ front-none P.fs)
 
     -- the end
     at-end : place ≡ end → SpansFound b start spans true
     at-end e =
         found P.fs refl
-        (P.so_far ∙ ap (λ (n : ℕ). all_in_front P.fs (closed (drop n b))) e ∙ ap (all_in_front P.fs) E.ten ∙ front_some P.fs [] ∙ ap some (append-nil P.fs))
+        (P.so_far ∙ ap (λ (n : ℕ). all_in_front P.fs (closed (drop n b))) e ∙ ap (all_in_front P.fs) E.ten ∙ front_some P.fs [] ∙ ap Some (append-nil P.fs))
         P.spanned
 
-    past_end : end < place → closed (drop place b) ≡ none
+    past_end : end < place → closed (drop place b) ≡ None
     past_end h = ap closed (drop_of_length-le b (by (leb (length b) place) refl)) ∙ closed-end
       where
         by : (t : Bool) → leb (length b) place ≡ t → length b ≤ place
@@ -86,10 +86,10 @@ module _ (b : List ℕ) (start end : ℕ) (E : EndsAt b start end) where
       long : 7 < length (drop place b)
       long = rw (length-drop place b) (omega (arith, E.seven))
 
-      pub seventh : slot ≡ 7 → closed (drop place b) ≡ none
+      pub seventh : slot ≡ 7 → closed (drop place b) ≡ None
       seventh e = by T
         where
-          by : TagAt b place slot next → closed (drop place b) ≡ none
+          by : TagAt b place slot next → closed (drop place b) ≡ None
           by (tag t g q h is) = framed_tag (drop place b) t (drop next b) g q (sym is ∙ e) long
           by (bad s h) = closed_bad (drop place b) (λ z. omega (arith, long)) h
 
@@ -108,11 +108,11 @@ module _ (b : List ℕ) (start end : ℕ) (E : EndsAt b start end) where
             by (tag t g q h is) = rw is (slot-below t)
             by (bad s h) = absurd (n s)
 
-        pub emptied : get_or b next 0 ≡ 1 → closed (drop place b) ≡ none
+        pub emptied : get_or b next 0 ≡ 1 → closed (drop place b) ≡ None
         unfolding clear
         emptied e = by T
           where
-            by : TagAt b place slot next → closed (drop place b) ≡ none
+            by : TagAt b place slot next → closed (drop place b) ≡ None
             by (tag t g q h is) =
                 turn_empty (drop place b) t [] (drop (suc next) b) g refl
                 (q ∙ ap (λ (l : List ℕ). t ++ (61 ∷ l)) (drop-cons b next 0 h ∙ ap (λ (x : ℕ). x ∷ drop (suc next) b) e)) refl
@@ -132,8 +132,8 @@ module _ (b : List ℕ) (start end : ℕ) (E : EndsAt b start end) where
               by (tag t g q h is) =
                   let far = tag_length b t place next q h in
                   let cut = q ∙ ap (λ (l : List ℕ). t ++ (61 ∷ l)) (split_value b next to wide) in
-                  let some : 0 < length value = omega (arith, value-length b next to wide, r.first) in
-                  let body = turn_body (drop place b) t value (drop (to + 1) b) g (value-clear b next to wide) cut some (λ s. n (is ∙ s)) in
+                  let filled : 0 < length value = omega (arith, value-length b next to wide, r.first) in
+                  let body = turn_body (drop place b) t value (drop (to + 1) b) g (value-clear b next to wide) cut filled (λ s. n (is ∙ s)) in
                   record {
                     fs = P.fs ++ (record { tag = t; value = value } ∷ []);
                     so_far = P.so_far ∙ ap (all_in_front P.fs) body ∙ sym (front-snoc P.fs (record { tag = t; value = value }) (closed (drop (to + 1) b)));

@@ -1,14 +1,13 @@
 -- The slot of a tag's number, and the number of 9 against a length.
-use Rattle.std.specs.Prelude.{if◌then◌else◌}
+use Rattle.std.specs.Prelude.{if◌then◌else◌, Option, None, Some, option_map}
 use Prim.Native.Nat.{ℕ, ◌<◌}
 use mathlib.Core.Path.{◌≡◌, refl, sym, ap, ◌∙◌}
 use mathlib.Core.Bool.{Bool, true, false}
-use mathlib.Core.Option.{Option, none, some}
 use native.Mathlib.Omega.{arith}
 use lib.Dec.{leb, eqb}
 use borrow.Author.Tests.{ne_eqb, leb-false}
 use Rattle.rules.specs.Frame.{is_number}
-use Rattle.fix_digits.specs.Answers.{capped_by}
+use Rattle.fix_digits.specs.Capped.{capped}
 use Rattle.fix_digits.proofs.Numbers.{gone}
 use Rattle.fix_fields.specs.Tags.{slot_number}
 
@@ -62,7 +61,7 @@ module _ (n : ℕ) where
       refl
 
 -- ---- the number of 9
-pub no_length : (o : Option ℕ) (n : ℕ) → none ≡ capped_by o → false ≡ is_number o n
+pub no_length : (o : Option ℕ) (n : ℕ) → None ≡ option_map capped o → false ≡ is_number o n
 no_length o n e = rw (gone o e) refl
 
 module _ (x n : ℕ) (small : n < 9223372036854775808) where
@@ -71,6 +70,6 @@ module _ (x n : ℕ) (small : n < 9223372036854775808) where
   length_by m false e q =
       ne_eqb x n (λ h. omega arith) ∙ sym (ne_eqb m n (λ h. omega (arith, leb-false m 18446744073709551609 e)))
 
-  pub a-length : (o : Option ℕ) (w : ℕ) → some x ≡ capped_by o → w ≡ n → eqb x w ≡ is_number o n
-  a-length none w e h = absurd (let z : ◌≡◌ {A = ℕ} 0 1 = cc in omega arith)
-  a-length (some m) w e h = ap (eqb x) h ∙ length_by m (leb m 18446744073709551609) refl (cc)
+  pub a-length : (o : Option ℕ) (w : ℕ) → Some x ≡ option_map capped o → w ≡ n → eqb x w ≡ is_number o n
+  a-length None w e h = absurd (let z : ◌≡◌ {A = ℕ} 0 1 = cc in omega arith)
+  a-length (Some m) w e h = ap (eqb x) h ∙ length_by m (leb m 18446744073709551609) refl (cc)

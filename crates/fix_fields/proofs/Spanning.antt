@@ -1,4 +1,5 @@
 -- A turn of the search for fields: the field that is found, and its slot.
+use Rattle.std.proofs.Common.{None}
 use Prim.Native.Nat.{ℕ, suc, ◌+◌, ◌-◌, ◌<◌}
 use native.Mathlib.Nat.{le_of_lt, eq-or-lt_of_le}
 use native.Mathlib.Omega.{arith}
@@ -6,7 +7,6 @@ use mathlib.Core.Path.{◌≡◌, refl, sym, ap, ◌∙◌}
 use mathlib.Core.Bool.{Bool, true, false}
 use mathlib.Core.Logic.{⊎_elim}
 use mathlib.Core.List.{List, [], ◌∷◌, ◌++◌, append_assoc}
-use mathlib.Core.Option.{none}
 use borrow.Author.Tests.{ne_eqb, eq-eqb, eqb-true, eqb-false}
 use lib.Dec.{eqb}
 use lib.ListN.{length, get_or, take, drop, length-drop}
@@ -71,7 +71,7 @@ module _ (l t v rest : List ℕ) (g : good_tag t ≡ true) (k : clear v ≡ true
       ∙ closed_body (t ++ (61 ∷ v)) rest (tag_clear t g v k) (record { tag = t; value = v }) (a_field t v g m)
       (frame_is (record { tag = t; value = v }) g ∙ ne_eqb (slot_of t) 7 n)
 
-  pub turn_empty : length v ≡ 0 → closed l ≡ none
+  pub turn_empty : length v ≡ 0 → closed l ≡ None
   turn_empty m =
       ap closed (q ∙ regroup t v rest)
       ∙ closed_none (t ++ (61 ∷ v)) rest (tag_clear t g v k) (ap (λ (x : List ℕ). field_of (t ++ (61 ∷ x))) (nil v m) ∙ no_value t g)
@@ -80,7 +80,7 @@ module _ (l t v rest : List ℕ) (g : good_tag t ≡ true) (k : clear v ≡ true
       nil [] h = refl
       nil (y ∷ x) h = absurd (omega arith)
 
-  turn_frame : 0 < length v → slot_of t ≡ 7 → 7 < length l → closed l ≡ none
+  turn_frame : 0 < length v → slot_of t ≡ 7 → 7 < length l → closed l ≡ None
   turn_frame m n long =
       ap closed is
       ∙ closed_frame (t ++ (61 ∷ v)) rest (tag_clear t g v k) (record { tag = t; value = v }) (a_field t v g m)
@@ -90,19 +90,19 @@ module _ (l t v rest : List ℕ) (g : good_tag t ≡ true) (k : clear v ≡ true
       is = q ∙ regroup t v rest
 
 -- a tag of the frame, whatever follows it
-unclosed : (l : List ℕ) → clear l ≡ true → (length l ≡ 0 → ⊥) → closed l ≡ none
+unclosed : (l : List ℕ) → clear l ≡ true → (length l ≡ 0 → ⊥) → closed l ≡ None
 unfolding closed fields_of
 unclosed l h n = ap (λ (ps : List (List ℕ)). closing_in (fields_in ps)) (all_one l h) ∙ ap closing_in (unended l n)
 
-pub framed_tag : (l t m : List ℕ) → good_tag t ≡ true → l ≡ t ++ (61 ∷ m) → slot_of t ≡ 7 → 7 < length l → closed l ≡ none
+pub framed_tag : (l t m : List ℕ) → good_tag t ≡ true → l ≡ t ++ (61 ∷ m) → slot_of t ≡ 7 → 7 < length l → closed l ≡ None
 framed_tag l t m g q n long = by (cut_of m)
   where
-    sized : (v rest : List ℕ) → clear v ≡ true → m ≡ v ++ (1 ∷ rest) → (d : Bool) → eqb (length v) 0 ≡ d → closed l ≡ none
+    sized : (v rest : List ℕ) → clear v ≡ true → m ≡ v ++ (1 ∷ rest) → (d : Bool) → eqb (length v) 0 ≡ d → closed l ≡ None
     sized v rest h p true d = turn_empty l t v rest g h (q ∙ ap (λ (x : List ℕ). t ++ (61 ∷ x)) p) (eqb-true (length v) 0 d)
     sized v rest h p false d =
         let z = eqb-false (length v) 0 d in
         turn_frame l t v rest g h (q ∙ ap (λ (x : List ℕ). t ++ (61 ∷ x)) p) (omega arith) n long
 
-    by : Cut m → closed l ≡ none
+    by : Cut m → closed l ≡ None
     by (whole h) = unclosed l (ap clear q ∙ tag_clear t g m h) (λ e. omega arith)
     by (at v rest h p _) = sized v rest h p (eqb (length v) 0) refl

@@ -1,11 +1,10 @@
 -- What is a field and what is none, by the bytes up to the first that is no digit.
-use Rattle.std.specs.Prelude.{if◌then◌else◌}
+use Rattle.std.specs.Prelude.{if◌then◌else◌, Option, None, Some}
 use Prim.Native.Nat.{ℕ, ◌≤◌, ◌<◌}
 use native.Mathlib.Omega.{arith}
 use mathlib.Core.Path.{◌≡◌, refl, sym, ap, ◌∙◌}
 use mathlib.Core.Bool.{Bool, true, false, ◌&&◌, ◌||◌, not, true≢false, and-false}
 use mathlib.Core.List.{List, [], ◌∷◌, ◌++◌, append-nil}
-use mathlib.Core.Option.{Option, none, some}
 use borrow.Author.Tests.{ne_eqb, eqb-false, le-leb, lt-leb, ltb-true, ltb-false, not-true}
 use lib.Dec.{eqb, leb, ltb}
 use lib.ListN.{length}
@@ -40,19 +39,19 @@ piece_clear [] m h = refl
 piece_clear (b ∷ l) m h = rw (clear-head b l h, piece_clear l m (clear-tail b l h)) refl
 
 -- ---- a tag and its equals sign
-split_sign : (t v : List ℕ) → all_digits t ≡ true → split_field (t ++ (61 ∷ v)) ≡ some (record { tag = t; value = v })
+split_sign : (t v : List ℕ) → all_digits t ≡ true → split_field (t ++ (61 ∷ v)) ≡ Some (record { tag = t; value = v })
 unfolding all_digits split_field
 split_sign [] v h = refl
 split_sign (b ∷ t) v h =
     let hs = both (is_digit b) (all_digits t) h in
     rw (ne_eqb b 61 (digit_not_sign b hs.0), split_sign t v hs.1) refl
 
-pub a_field : (t v : List ℕ) → good_tag t ≡ true → 0 < length v → field_of (t ++ (61 ∷ v)) ≡ some (record { tag = t; value = v })
+pub a_field : (t v : List ℕ) → good_tag t ≡ true → 0 < length v → field_of (t ++ (61 ∷ v)) ≡ Some (record { tag = t; value = v })
 unfolding field_of
 a_field t [] h l = absurd (omega arith)
 a_field t (b ∷ v) h l = rw (split_sign t (b ∷ v) (good_digits t h), h) refl
 
-pub no_value : (t : List ℕ) → good_tag t ≡ true → field_of (t ++ (61 ∷ [])) ≡ none
+pub no_value : (t : List ℕ) → good_tag t ≡ true → field_of (t ++ (61 ∷ [])) ≡ None
 unfolding field_of
 no_value t h = rw (split_sign t [] (good_digits t h), h) refl
 
@@ -62,11 +61,11 @@ unfolding good_tag
 not_good [] h = refl
 not_good (b ∷ t) h = rw h refl
 
-without : (o : Option Field) → ((f : Field) → o ≡ some f → good_tag f.tag ≡ false) → good_field o ≡ none
-without none h = refl
-without (some f) h = rw (h f refl) refl
+without : (o : Option Field) → ((f : Field) → o ≡ Some f → good_tag f.tag ≡ false) → good_field o ≡ None
+without None h = refl
+without (Some f) h = rw (h f refl) refl
 
-no_sign : (t : List ℕ) → all_digits t ≡ true → split_field t ≡ none
+no_sign : (t : List ℕ) → all_digits t ≡ true → split_field t ≡ None
 unfolding all_digits split_field
 no_sign [] h = refl
 no_sign (b ∷ t) h =
@@ -74,15 +73,15 @@ no_sign (b ∷ t) h =
     rw (ne_eqb b 61 (digit_not_sign b hs.0), no_sign t hs.1) refl
 
 -- the tag that a byte in front makes
-tagged : (b : ℕ) (o : Option Field) (f : Field) → tagged_by b o ≡ some f → (g : Field) × (o ≡ some g) × (f.tag ≡ b ∷ g.tag)
-tagged b none f e = absurd (let z : ◌≡◌ {A = ℕ} 0 1 = cc in omega arith)
-tagged b (some g) f e = (g, refl, ap (λ (x : Field). x.tag) (sym is))
+tagged : (b : ℕ) (o : Option Field) (f : Field) → tagged_by b o ≡ Some f → (g : Field) × (o ≡ Some g) × (f.tag ≡ b ∷ g.tag)
+tagged b None f e = absurd (let z : ◌≡◌ {A = ℕ} 0 1 = cc in omega arith)
+tagged b (Some g) f e = (g, refl, ap (λ (x : Field). x.tag) (sym is))
   where
     is : record { tag = b ∷ g.tag; value = g.value } ≡ f
     is = cc
 
 mixed_digits : (ds : List ℕ) (x : ℕ) (p : List ℕ) (f : Field) → is_digit x ≡ false → (x ≡ 61 → ⊥)
-    → all_digits ds ≡ true → split_field (ds ++ (x ∷ p)) ≡ some f → all_digits f.tag ≡ false
+    → all_digits ds ≡ true → split_field (ds ++ (x ∷ p)) ≡ Some f → all_digits f.tag ≡ false
 unfolding all_digits split_field
 mixed_digits [] x p f d s h e =
     let g = tagged x (split_field p) f (rw (ne_eqb x 61 s) at e) in
@@ -93,11 +92,11 @@ mixed_digits (b ∷ ds) x p f d s h e =
     rw (g.2, mixed_digits ds x p g.0 d s hs.1 g.1) (and-false (is_digit b))
 
 pub no_tag : (ds : List ℕ) (x : ℕ) (rest : List ℕ) → all_digits ds ≡ true → is_digit x ≡ false → (x ≡ 61 → ⊥)
-    → field_of (piece_of (ds ++ (x ∷ rest))) ≡ none
+    → field_of (piece_of (ds ++ (x ∷ rest))) ≡ None
 unfolding field_of piece_of
 no_tag ds x rest h d s = rw (piece_clear ds (x ∷ rest) (digits_clear ds h)) (by (eqb x 1))
   where
-    by : (t : Bool) → good_field (split_field (ds ++ (if t then [] else x ∷ piece_of rest))) ≡ none
+    by : (t : Bool) → good_field (split_field (ds ++ (if t then [] else x ∷ piece_of rest))) ≡ None
     by true = rw (append-nil ds, no_sign ds h) refl
     by false = without (split_field (ds ++ (x ∷ piece_of rest))) (λ f e. not_good f.tag (mixed_digits ds x (piece_of rest) f d s h e))
 
@@ -111,17 +110,17 @@ first_bad x t h = by (is_digit x) (all_digits t) (not (eqb x 48)) h
     by true false c h = refl
     by false b c h = refl
 
-pub no_first_digit : (x : ℕ) (rest : List ℕ) → is_digit x && not (eqb x 48) ≡ false → field_of (piece_of (x ∷ rest)) ≡ none
+pub no_first_digit : (x : ℕ) (rest : List ℕ) → is_digit x && not (eqb x 48) ≡ false → field_of (piece_of (x ∷ rest)) ≡ None
 unfolding field_of piece_of split_field good_tag
 no_first_digit x rest h = by (eqb x 1)
   where
-    inner : (t : Bool) → good_field (if t then some (record { tag = []; value = piece_of rest }) else tagged_by x (split_field (piece_of rest))) ≡ none
+    inner : (t : Bool) → good_field (if t then Some (record { tag = []; value = piece_of rest }) else tagged_by x (split_field (piece_of rest))) ≡ None
     inner true = refl
     inner false =
         without (tagged_by x (split_field (piece_of rest)))
         (λ f e. let g = tagged x (split_field (piece_of rest)) f e in ap good_tag g.2 ∙ first_bad x g.0.tag h)
 
-    by : (t : Bool) → good_field (split_field (if t then [] else x ∷ piece_of rest)) ≡ none
+    by : (t : Bool) → good_field (split_field (if t then [] else x ∷ piece_of rest)) ≡ None
     by true = refl
     by false = inner (eqb x 61)
 

@@ -1,6 +1,5 @@
 -- What the search for fields keeps: the fields up to the last, and where the values of the used tags are.
-use Rattle.std.specs.Prelude.{ℕ, zero, suc, ◌+◌, ◌-◌, ◌≤◌, ◌<◌, ◌≡◌, Bool, true, false, ◌&&◌, not, List, [], ◌∷◌, eqb, length, get_or, take, drop, set, if◌then◌else◌}
-use Rattle.std.proofs.Math.Option.{Option, none, some}
+use Rattle.std.specs.Prelude.{ℕ, zero, suc, ◌+◌, ◌-◌, ◌≤◌, ◌<◌, ◌≡◌, Bool, true, false, ◌&&◌, not, List, [], ◌∷◌, eqb, length, get_or, take, drop, set, if◌then◌else◌, Option, None, Some}
 use Rattle.lists.specs.Lists.{any}
 use Rattle.rules.specs.Fields.{Field, fields_of, has_tag, values_of}
 use Rattle.rules.specs.Frame.{checksum_tag, is_frame_tag, Ending, ending_of}
@@ -11,16 +10,16 @@ unfoldable pub closes : Ending → Bool
 closes e = not (any is_frame_tag e.front) && (has_tag checksum_tag e.last && eqb (length e.last.value) 3)
 
 abbrev pub closing_by : Bool → List Field → Option (List Field)
-closing_by true fs = some fs
-closing_by false fs = none
+closing_by true fs = Some fs
+closing_by false fs = None
 
 abbrev pub closing_of : Option Ending → Option (List Field)
-closing_of none = none
-closing_of (some e) = closing_by (closes e) e.front
+closing_of None = None
+closing_of (Some e) = closing_by (closes e) e.front
 
 abbrev pub closing_in : Option (List Field) → Option (List Field)
-closing_in none = none
-closing_in (some fs) = closing_of (ending_of fs)
+closing_in None = None
+closing_in (Some fs) = closing_of (ending_of fs)
 
 -- those before 10, or nothing
 unfoldable pub closed : List ℕ → Option (List Field)
@@ -58,9 +57,9 @@ pub record EndsAt (b : List ℕ) (start end : ℕ) : Type 0 where
   pub before : get_or b (start - 1) 0 ≡ 1
   pub last : get_or b (length b - 1) 0 ≡ 1
   pub inner : (k : ℕ) → end ≤ k → k + 1 < length b → get_or b k 0 ≡ 1 → ⊥
-  pub ten : closed (drop end b) ≡ some []
+  pub ten : closed (drop end b) ≡ Some []
 
 -- what is found
 pub data SpansFound (b : List ℕ) (start : ℕ) (spans : List ℕ) (good : Bool) : Type 0 where
-  found : (fs : List Field) → good ≡ true → closed (drop start b) ≡ some fs → Spanned b spans fs → SpansFound b start spans good
-  wrong : good ≡ false → closed (drop start b) ≡ none → SpansFound b start spans good
+  found : (fs : List Field) → good ≡ true → closed (drop start b) ≡ Some fs → Spanned b spans fs → SpansFound b start spans good
+  wrong : good ≡ false → closed (drop start b) ≡ None → SpansFound b start spans good

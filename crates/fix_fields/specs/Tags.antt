@@ -1,6 +1,5 @@
 -- The slots that tags belong to, and what is found where a tag should stand.
-use Rattle.std.specs.Prelude.{ℕ, ◌<◌, ◌≡◌, true, false, List, [], ◌∷◌, ◌++◌, eqb, leb, length, drop, if◌then◌else◌}
-use Rattle.std.proofs.Math.Option.{none}
+use Rattle.std.specs.Prelude.{ℕ, ◌<◌, ◌≡◌, true, false, List, [], ◌∷◌, ◌++◌, eqb, leb, length, drop, if◌then◌else◌, None}
 use Rattle.rules.specs.Digits.{is_digit, all_digits, number_from}
 use Rattle.rules.specs.Fields.{good_tag, field_of}
 
@@ -23,7 +22,7 @@ piece_of (b ∷ bs) = let rest = piece_of bs in if eqb b 1 then [] else b ∷ re
 -- a tag and its equals sign, with its slot and the place behind; or slot 7, where none begins
 pub data TagAt (b : List ℕ) (at slot next : ℕ) : Type 0 where
   tag : (t : List ℕ) → good_tag t ≡ true → drop at b ≡ t ++ (61 ∷ drop next b) → next < length b → slot ≡ slot_of t → TagAt b at slot next
-  bad : slot ≡ 7 → field_of (piece_of (drop at b)) ≡ none → TagAt b at slot next
+  bad : slot ≡ 7 → field_of (piece_of (drop at b)) ≡ None → TagAt b at slot next
 
 -- the digits from the third on, and behind them the equals sign, or another byte
 pub data LongTag (b : List ℕ) (from slot next : ℕ) : Type 0 where

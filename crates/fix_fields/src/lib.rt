@@ -2,14 +2,14 @@
 #![tactic(auto)]
 
 ghost use Rattle.std.specs.Prelude.{◌≡◌, ◌+◌, ◌-◌, ◌<◌, eqb, length, get_or, replicate, if◌then◌else◌};
-ghost use Rattle.fix_fields.specs.Ends.{ClosedFrom, EndOf};
+ghost use Rattle.fix_fields.specs.Ends.{ClosedFrom, EndOf, DigitsEnd};
 ghost use Rattle.fix_fields.specs.Tags.{slot_number, TagAt, LongTag};
 ghost use Rattle.fix_fields.specs.Spans.{noted, EndsAt, SpansFound};
 
 use fix_digits::is_digit;
 
 // Where a tag stands: the slot that it belongs to, and the byte behind its equals sign. Slot 7 is for no tag, and for those of the frame.
-#[derive(Clone, Copy)]
+#[derive(Clone, Copy, PartialEq, Eq)]
 pub struct Tag {
     pub slot: usize,
     pub next: usize,
@@ -34,15 +34,24 @@ fn slot_of(tag: u8) -> usize
     }
 }
 
-// The rest of a tag of three digits or more: the last byte is no digit, so the search ends.
-fn long_tag(b: &[u8], from: usize) -> Tag
+// The first byte from a byte on that is no digit. The last byte is none, so the search ends, and by index no turn tests the length.
+pub fn digits_end(b: &[u8], from: usize) -> usize
     requires { ClosedFrom b.now from }
-    ensures { LongTag b.now from result.slot result.next }
+    ensures { DigitsEnd b.now from result }
 {
     let mut i = from;
     while is_digit(b[i]) {
         i += 1;
     }
+    i
+}
+
+// The rest of a tag of three digits or more.
+fn long_tag(b: &[u8], from: usize) -> Tag
+    requires { ClosedFrom b.now from }
+    ensures { LongTag b.now from result.slot result.next }
+{
+    let i = digits_end(b, from);
     if b[i] == 61 {
         return Tag {
             slot: 6,

@@ -1,11 +1,10 @@
 -- A message that passes every test of the frame: its body is what the fields behind 35 say.
-use Rattle.std.specs.Prelude.{if◌then◌else◌}
+use Rattle.std.specs.Prelude.{if◌then◌else◌, Option, None, Some}
 use Prim.Native.Nat.{ℕ, ◌-◌, ◌%◌, ◌<◌}
 use native.Mathlib.Omega.{arith}
 use mathlib.Core.Path.{◌≡◌, refl, sym, ap, ◌∙◌}
 use mathlib.Core.Bool.{Bool, true, false, ◌&&◌, ◌||◌, not, true≢false}
 use mathlib.Core.List.{List, [], ◌∷◌, ◌++◌}
-use mathlib.Core.Option.{Option, none, some}
 use borrow.Author.Tests.{eqb-true, eqb-false}
 use lib.Dec.{eqb}
 use lib.ListN.{length, take, drop, length-append}
@@ -26,28 +25,28 @@ use Rattle.fix_frame.proofs.Refusing.{Counted}
 
 -- ---- the three first fields
 pub short_tag : (t : List ℕ) → good_tag t ≡ true → (v : List ℕ) → clear (t ++ (61 ∷ v)) ≡ true → 0 < length v → (rest : List ℕ)
-    → fields_of ((t ++ (61 ∷ v)) ++ (1 ∷ rest)) ≡ add_field (some (record { tag = t; value = v })) (fields_of rest)
+    → fields_of ((t ++ (61 ∷ v)) ++ (1 ∷ rest)) ≡ add_field (Some (record { tag = t; value = v })) (fields_of rest)
 short_tag t g v k l rest =
     one_field (t ++ (61 ∷ v)) rest k ∙ ap (λ (o : Option Field). add_field o (fields_of rest)) (a_field t v g l)
 
 module _ (v : List ℕ) (k : ℕ) (rest : List ℕ) (c : Counted v) (n : k ≡ 1 → ⊥) where
   three-fields : fields_of (56 ∷ 61 ∷ 70 ∷ 73 ∷ 88 ∷ 46 ∷ 52 ∷ 46 ∷ 52 ∷ 1 ∷ 57 ∷ 61 ∷ (v ++ (1 ∷ 51 ∷ 53 ∷ 61 ∷ k ∷ 1 ∷ rest)))
-      ≡ add_field (some eight) (add_field (some (nine_of v)) (add_field (some (type_of k)) (fields_of rest)))
+      ≡ add_field (Some eight) (add_field (Some (nine_of v)) (add_field (Some (type_of k)) (fields_of rest)))
   unfolding good_tag all_digits clear
   three-fields =
       short_tag version_tag refl version refl (omega arith) (57 ∷ 61 ∷ (v ++ (1 ∷ 51 ∷ 53 ∷ 61 ∷ k ∷ 1 ∷ rest)))
-      ∙ ap (add_field (some eight))
+      ∙ ap (add_field (Some eight))
       (short_tag length_tag refl v (digits_clear v c.digits) c.some (51 ∷ 53 ∷ 61 ∷ k ∷ 1 ∷ rest)
-      ∙ ap (add_field (some (nine_of v))) (short_tag type_tag refl (k ∷ []) (clear-cons k [] n refl) (omega arith) rest))
+      ∙ ap (add_field (Some (nine_of v))) (short_tag type_tag refl (k ∷ []) (clear-cons k [] n refl) (omega arith) rest))
 
 -- ---- a type's byte
-kind_of_lem : (k : ℕ) → is_kind k ≡ true → kind_in (k ∷ []) ≡ some (kind_byte k)
+kind_of_lem : (k : ℕ) → is_kind k ≡ true → kind_in (k ∷ []) ≡ Some (kind_byte k)
 unfolding kind_in kind_byte same_bytes
 kind_of_lem k h = by (eqb k 68) (eqb k 70) (eqb k 71) h
   where
     by : (a b c : Bool) → a || b || c ≡ true
-        → (if a && true then some new else if b && true then some cancel else if c && true then some replace else none)
-        ≡ some (if a then new else if b then cancel else replace)
+        → (if a && true then Some new else if b && true then Some cancel else if c && true then Some replace else None)
+        ≡ Some (if a then new else if b then cancel else replace)
     by true b c h = refl
     by false true c h = refl
     by false false true h = refl
@@ -76,7 +75,7 @@ module _ (b v : List ℕ) (k : ℕ) (rest : List ℕ) (c : Counted v) (K : is_ki
     (L : is_number (in_digits v) (length rest - 2) ≡ true)
     (T : drop (length b - 7) b ≡ tail_of (sum (take (length b - 7) b) % 256)) where
   -- with the fields behind 35 and the last of them
-  module _ (rs : List Field) (q : fields_of rest ≡ some rs) (e : Ending) (h : ending_of rs ≡ some e) where
+  module _ (rs : List Field) (q : fields_of rest ≡ Some rs) (e : Ending) (h : ending_of rs ≡ Some e) where
     before : List ℕ
     before = fields_bytes (eight ∷ nine_of v ∷ type_of k ∷ e.front)
 
@@ -142,20 +141,20 @@ module _ (b v : List ℕ) (k : ℕ) (rest : List ℕ) (c : Counted v) (K : is_ki
         ≡ body_with (kind_byte k) (closing_by (closes e) e.front)
     by_ending = (λ i. body_by (good_is i) (kind_of_lem k K i) e.front) ∙ by (closes e)
       where
-        by : (t : Bool) → body_by t (some (kind_byte k)) e.front ≡ body_with (kind_byte k) (closing_by t e.front)
+        by : (t : Bool) → body_by t (Some (kind_byte k)) e.front ≡ body_with (kind_byte k) (closing_by t e.front)
         by true = refl
         by false = refl
 
-  by_endings : (rs : List Field) → fields_of rest ≡ some rs → (o : Option Ending) → ending_of rs ≡ o
+  by_endings : (rs : List Field) → fields_of rest ≡ Some rs → (o : Option Ending) → ending_of rs ≡ o
       → framed_by eight (nine_of v) (type_of k) o ≡ body_with (kind_byte k) (closing_of o)
-  by_endings rs q none h = refl
-  by_endings rs q (some e) h = by_ending rs q e h
+  by_endings rs q None h = refl
+  by_endings rs q (Some e) h = by_ending rs q e h
 
   by_fields : (o : Option (List Field)) → fields_of rest ≡ o
-      → framed_in (add_field (some eight) (add_field (some (nine_of v)) (add_field (some (type_of k)) o))) ≡ body_with (kind_byte k) (closing_in o)
+      → framed_in (add_field (Some eight) (add_field (Some (nine_of v)) (add_field (Some (type_of k)) o))) ≡ body_with (kind_byte k) (closing_in o)
   unfolding framed
-  by_fields none q = refl
-  by_fields (some rs) q = by_endings rs q (ending_of rs) refl
+  by_fields None q = refl
+  by_fields (Some rs) q = by_endings rs q (ending_of rs) refl
 
   pub accepted : body_in b ≡ body_with (kind_byte k) (closed rest)
   unfolding body_in closed

@@ -1,16 +1,15 @@
 -- What the tests of the frame find together, at the places where they look.
+use Rattle.std.proofs.Common.{Some}
 use Prim.Native.Nat.{ℕ, zero, suc, ◌+◌, ◌-◌, ◌/◌, ◌%◌, ◌≤◌, ◌<◌}
 use native.Mathlib.Omega.{arith}
 use mathlib.Core.Path.{◌≡◌, refl, sym, ap, ◌∙◌}
 use mathlib.Core.Bool.{true}
 use mathlib.Core.List.{List, [], ◌∷◌, ◌++◌}
-use mathlib.Core.Option.{some}
 use lib.ListN.{length, get_or, take, drop, length-drop}
 use Rattle.lists.specs.Lists.{sum, any}
 use Rattle.rules.specs.Digits.{all_digits, in_digits}
 use Rattle.rules.specs.Fields.{pieces, good_tag, fields_in, fields_of, same_bytes}
 use Rattle.rules.specs.Frame.{checksum_tag, is_number, ending_of}
-use Rattle.fix_frame.specs.declared.Frame.TheVariants.{Of}
 use Rattle.fix_fields.specs.Ends.{EndOf}
 use Rattle.fix_fields.specs.Spans.{closes, closing_in, closed, EndsAt}
 use Rattle.fix_frame.specs.Frames.{head_right, type_right, tail_right, is_kind, FrameFound}
@@ -43,7 +42,7 @@ three-clear : (d e f : ℕ) → (d ≡ 1 → ⊥) → (e ≡ 1 → ⊥) → (f �
 unfolding clear
 three-clear d e f h k l = clear-cons d (e ∷ f ∷ []) h (clear-cons e (f ∷ []) k (clear-cons f [] l refl))
 
-pub ten_closed : (s : ℕ) → closed (tail_of s) ≡ some []
+pub ten_closed : (s : ℕ) → closed (tail_of s) ≡ Some []
 unfolding closed closes ending_of same_bytes any fields_of pieces fields_in good_tag all_digits
 ten_closed s =
     ap closing_in
@@ -92,7 +91,7 @@ module _ (b : List ℕ) (p : ℕ) (long : 26 ≤ length b) (last : get_or b (len
         ten = ap closed tail_bytes_lem ∙ ten_closed s;
       }
 
-  pub frame_right : FrameFound b (Of (get_or b (p + 4) 0) (p + 6) (length b - 7))
+  pub frame_right : FrameFound b (Some (record { kind = get_or b (p + 4) 0; start = p + 6; end = length b - 7 }))
   frame_right = (
     ends_at,
     kind,

@@ -1,11 +1,10 @@
 -- Each test of the frame passes on a message with a right frame: where one fails, there is no body.
-use Rattle.std.specs.Prelude.{if◌then◌else◌}
+use Rattle.std.specs.Prelude.{if◌then◌else◌, None, Some}
 use Prim.Native.Nat.{ℕ, ◌+◌, ◌-◌, ◌%◌, ◌<◌}
 use native.Mathlib.Omega.{arith}
 use mathlib.Core.Path.{◌≡◌, refl, sym, ap, ◌∙◌}
 use mathlib.Core.Bool.{Bool, true, false, true≢false}
 use mathlib.Core.List.{List, [], ◌∷◌, ◌++◌}
-use mathlib.Core.Option.{none, some}
 use lib.ListN.{length, get_or, take, drop, length-append, length-drop}
 use lib.Seq.{get_or-append-add, take_at, drop_at}
 use Rattle.lists.specs.Lists.{sum}
@@ -30,7 +29,7 @@ unfolding in_digits
 counted_digits [] n h = absurd (true≢false (sym h))
 counted_digits (b ∷ v) n h = by (all_digits (b ∷ v)) refl h
   where
-    by : (t : Bool) → all_digits (b ∷ v) ≡ t → is_number (if t then some (number_from 0 (b ∷ v)) else none) n ≡ true → Counted (b ∷ v)
+    by : (t : Bool) → all_digits (b ∷ v) ≡ t → is_number (if t then Some (number_from 0 (b ∷ v)) else None) n ≡ true → Counted (b ∷ v)
     by true e h = record { digits = e; some = omega arith }
     by false e h = absurd (true≢false (sym h))
 

@@ -1,11 +1,10 @@
 -- The bytes of a message whose frame is right.
-use Rattle.std.specs.Prelude.{if◌then◌else◌}
+use Rattle.std.specs.Prelude.{if◌then◌else◌, Option, None, Some}
 use Prim.Native.Nat.{ℕ, ◌%◌}
 use native.Mathlib.Omega.{arith}
 use mathlib.Core.Path.{◌≡◌, refl, sym, ap, ◌∙◌}
 use mathlib.Core.Bool.{Bool, true, false, not}
 use mathlib.Core.List.{List, [], ◌∷◌, ◌++◌, append_assoc, append-nil}
-use mathlib.Core.Option.{Option, none, some}
 use lib.ListN.{length}
 use Rattle.lists.specs.Lists.{sum, any}
 use Rattle.rules.specs.Digits.{in_digits, three_digits}
@@ -31,21 +30,21 @@ abbrev pub ten_of : List ℕ → Field
 ten_of v = record { tag = checksum_tag; value = v }
 
 -- ---- the ending of a list is its last field
-ending-none : (rs : List Field) → ending_of rs ≡ none → rs ≡ []
+ending-none : (rs : List Field) → ending_of rs ≡ None → rs ≡ []
 ending-none [] h = refl
 ending-none (f ∷ rs) h = let e = ending_some f rs in absurd (let z : ◌≡◌ {A = ℕ} 0 1 = cc e.1 in omega arith)
 
-pub ending_is : (rs : List Field) (e : Ending) → ending_of rs ≡ some e → rs ≡ e.front ++ (e.last ∷ [])
+pub ending_is : (rs : List Field) (e : Ending) → ending_of rs ≡ Some e → rs ≡ e.front ++ (e.last ∷ [])
 unfolding ending_of
 ending_is [] e h = absurd (let z : ◌≡◌ {A = ℕ} 0 1 = cc in omega arith)
 ending_is (f ∷ rs) e h = by (ending_of rs) refl (ending_is rs) h
   where
-    by : (o : Option Ending) → ending_of rs ≡ o → ((g : Ending) → ending_of rs ≡ some g → rs ≡ g.front ++ (g.last ∷ []))
-        → behind f o ≡ some e → f ∷ rs ≡ e.front ++ (e.last ∷ [])
-    by none q k h =
+    by : (o : Option Ending) → ending_of rs ≡ o → ((g : Ending) → ending_of rs ≡ Some g → rs ≡ g.front ++ (g.last ∷ []))
+        → behind f o ≡ Some e → f ∷ rs ≡ e.front ++ (e.last ∷ [])
+    by None q k h =
         let is : record { front = []; last = f } ≡ e = cc in
         ap (λ (l : List Field). f ∷ l) (ending-none rs q) ∙ ap (λ (x : Ending). x.front ++ (x.last ∷ [])) is
-    by (some g) q k h =
+    by (Some g) q k h =
         let is : record { front = f ∷ g.front; last = g.last } ≡ e = cc in
         ap (λ (l : List Field). f ∷ l) (k g q) ∙ ap (λ (x : Ending). x.front ++ (x.last ∷ [])) is
 
@@ -79,12 +78,12 @@ pub record Shape (b : List ℕ) : Type 0 where
   pub counted : is_number (in_digits nine) (length (fields_bytes (type_of kind ∷ front))) ≡ true
 
 -- a type's byte
-kind_byte_lem : (v : List ℕ) (k : Kind) → kind_in v ≡ some k → (x : ℕ) × (v ≡ x ∷ []) × (is_kind x ≡ true)
+kind_byte_lem : (v : List ℕ) (k : Kind) → kind_in v ≡ Some k → (x : ℕ) × (v ≡ x ∷ []) × (is_kind x ≡ true)
 unfolding kind_in
 kind_byte_lem v k e = by (same_bytes v (kind_text new)) (same_bytes v (kind_text cancel)) (same_bytes v (kind_text replace)) refl refl refl e
   where
     by : (a b c : Bool) → same_bytes v (kind_text new) ≡ a → same_bytes v (kind_text cancel) ≡ b → same_bytes v (kind_text replace) ≡ c
-        → (if a then some new else if b then some cancel else if c then some replace else none) ≡ some k
+        → (if a then Some new else if b then Some cancel else if c then Some replace else None) ≡ Some k
         → (x : ℕ) × (v ≡ x ∷ []) × (is_kind x ≡ true)
     by true b c p q r e = (68, same_is v (kind_text new) p, refl)
     by false true c p q r e = (70, same_is v (kind_text cancel) q, refl)
@@ -118,8 +117,8 @@ right first size kind body check h =
       sums = same_is check.value (three_digits (sum (fields_bytes (first ∷ size ∷ kind ∷ body)) % 256)) h₇.1;
     }
 
-module _ (b : List ℕ) (first size kind : Field) (e : Ending) (rest : List Field) (q : fields_of b ≡ some (first ∷ size ∷ kind ∷ rest))
-    (h : ending_of rest ≡ some e) (R : Right first size kind e.front e.last) (x : ℕ) (v : kind.value ≡ x ∷ []) (k : is_kind x ≡ true) where
+module _ (b : List ℕ) (first size kind : Field) (e : Ending) (rest : List Field) (q : fields_of b ≡ Some (first ∷ size ∷ kind ∷ rest))
+    (h : ending_of rest ≡ Some e) (R : Right first size kind e.front e.last) (x : ℕ) (v : kind.value ≡ x ∷ []) (k : is_kind x ≡ true) where
   is_kind_lem : kind ≡ type_of x
   is_kind_lem = λ i. record { tag = R.is_type i; value = v i }
 
@@ -146,37 +145,37 @@ module _ (b : List ℕ) (first size kind : Field) (e : Ending) (rest : List Fiel
         counted = sym (λ i. is_number (in_digits size.value) (length (fields_bytes (is_kind_lem i ∷ e.front)))) ∙ R.counts;
       }
 
-no_body : {x : Body} → none ≡ some x → ⊥
+no_body : {x : Body} → None ≡ Some x → ⊥
 no_body e = let z : ◌≡◌ {A = ℕ} 0 1 = cc in omega arith
 
-by_body : (b : List ℕ) (first size kind : Field) (e : Ending) (rest : List Field) → fields_of b ≡ some (first ∷ size ∷ kind ∷ rest) → ending_of rest ≡ some e
+by_body : (b : List ℕ) (first size kind : Field) (e : Ending) (rest : List Field) → fields_of b ≡ Some (first ∷ size ∷ kind ∷ rest) → ending_of rest ≡ Some e
     → (g : Bool) → good_frame first size kind e.front e.last ≡ g → (o : Option Kind) → kind_in kind.value ≡ o → (x : Body)
-    → body_by g o e.front ≡ some x → Shape b
+    → body_by g o e.front ≡ Some x → Shape b
 by_body b first size kind e rest q h false G o K x E = absurd (no_body E)
-by_body b first size kind e rest q h true G none K x E = absurd (no_body E)
-by_body b first size kind e rest q h true G (some k) K x E =
+by_body b first size kind e rest q h true G None K x E = absurd (no_body E)
+by_body b first size kind e rest q h true G (Some k) K x E =
     let t = kind_byte_lem kind.value k K in
     shaped b first size kind e rest q h (right first size kind e.front e.last G) t.0 t.1 t.2
 
-by_ending : (b : List ℕ) (first size kind : Field) (rest : List Field) → fields_of b ≡ some (first ∷ size ∷ kind ∷ rest) → (o : Option Ending)
-    → ending_of rest ≡ o → (x : Body) → framed_by first size kind o ≡ some x → Shape b
-by_ending b first size kind rest q none h x E = absurd (no_body E)
-by_ending b first size kind rest q (some e) h x E =
+by_ending : (b : List ℕ) (first size kind : Field) (rest : List Field) → fields_of b ≡ Some (first ∷ size ∷ kind ∷ rest) → (o : Option Ending)
+    → ending_of rest ≡ o → (x : Body) → framed_by first size kind o ≡ Some x → Shape b
+by_ending b first size kind rest q None h x E = absurd (no_body E)
+by_ending b first size kind rest q (Some e) h x E =
     by_body b first size kind e rest q h (good_frame first size kind e.front e.last) refl (kind_in kind.value) refl x E
 
-by_fields : (b : List ℕ) (o : Option (List Field)) → fields_of b ≡ o → (x : Body) → framed_in o ≡ some x → Shape b
+by_fields : (b : List ℕ) (o : Option (List Field)) → fields_of b ≡ o → (x : Body) → framed_in o ≡ Some x → Shape b
 unfolding framed
-by_fields b none q x E = absurd (no_body E)
-by_fields b (some []) q x E = absurd (no_body E)
-by_fields b (some (f ∷ [])) q x E = absurd (no_body E)
-by_fields b (some (f ∷ g ∷ [])) q x E = absurd (no_body E)
-by_fields b (some (first ∷ size ∷ kind ∷ rest)) q x E = by_ending b first size kind rest q (ending_of rest) refl x E
+by_fields b None q x E = absurd (no_body E)
+by_fields b (Some []) q x E = absurd (no_body E)
+by_fields b (Some (f ∷ [])) q x E = absurd (no_body E)
+by_fields b (Some (f ∷ g ∷ [])) q x E = absurd (no_body E)
+by_fields b (Some (first ∷ size ∷ kind ∷ rest)) q x E = by_ending b first size kind rest q (ending_of rest) refl x E
 
 -- what no message with a right frame is has no body
-pub unshaped : (b : List ℕ) → (Shape b → ⊥) → body_in b ≡ none
+pub unshaped : (b : List ℕ) → (Shape b → ⊥) → body_in b ≡ None
 unfolding body_in
 unshaped b h = by (framed_in (fields_of b)) refl
   where
-    by : (o : Option Body) → framed_in (fields_of b) ≡ o → o ≡ none
-    by none e = refl
-    by (some x) e = absurd (h (by_fields b (fields_of b) refl x e))
+    by : (o : Option Body) → framed_in (fields_of b) ≡ o → o ≡ None
+    by None e = refl
+    by (Some x) e = absurd (h (by_fields b (fields_of b) refl x e))

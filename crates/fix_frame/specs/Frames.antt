@@ -1,10 +1,8 @@
 -- What the tests of the frame say, and what they find together.
-use Rattle.std.specs.Prelude.{ℕ, ◌+◌, ◌/◌, ◌%◌, ◌≡◌, Bool, true, ◌&&◌, ◌||◌, List, eqb, get_or, drop, if◌then◌else◌}
-use Rattle.std.proofs.Math.Option.{Option, none, some}
+use Rattle.std.specs.Prelude.{ℕ, ◌+◌, ◌/◌, ◌%◌, ◌≡◌, Bool, true, ◌&&◌, ◌||◌, List, eqb, get_or, drop, if◌then◌else◌, Option, None, Some}
 use Rattle.rules.specs.Fields.{Field}
 use Rattle.rules.specs.Frame.{Kind, new, cancel, replace, Body, body_in}
 use Rattle.fix_frame.specs.declared.Frame.{Frame}
-use Rattle.fix_frame.specs.declared.Frame.TheVariants.{Of, Wrong}
 use Rattle.fix_fields.specs.Spans.{closed, EndsAt}
 
 -- a byte at a place
@@ -32,10 +30,10 @@ unfoldable pub kind_byte : ℕ → Kind
 kind_byte k = if eqb k 68 then new else if eqb k 70 then cancel else replace
 
 abbrev pub body_with : Kind → Option (List Field) → Option Body
-body_with k none = none
-body_with k (some fs) = some (record { kind = k; fields = fs })
+body_with k None = None
+body_with k (Some fs) = Some (record { kind = k; fields = fs })
 
 -- the frame is right and the fields behind 35 decide; or there is no body
-abbrev pub FrameFound : List ℕ → Frame → Type 0
-FrameFound b (Of kind start end) = EndsAt b start end × (is_kind kind ≡ true) × (body_in b ≡ body_with (kind_byte kind) (closed (drop start b)))
-FrameFound b Wrong = body_in b ≡ none
+abbrev pub FrameFound : List ℕ → Option Frame → Type 0
+FrameFound b (Some f) = EndsAt b f.start f.end × (is_kind f.kind ≡ true) × (body_in b ≡ body_with (kind_byte f.kind) (closed (drop f.start b)))
+FrameFound b None = body_in b ≡ None

@@ -7,8 +7,6 @@ ghost use Rattle.rules.specs.Digits.{in_digits};
 ghost use Rattle.rules.specs.Frame.{is_number};
 ghost use Rattle.fix_frame.specs.Frames.{head_right, type_right, tail_right, is_kind, FrameFound};
 
-use fix_digits::Number;
-
 // 8=FIX.4.4, byte 1, 9=
 pub fn head_good(b: &[u8]) -> bool
     requires { 12 ≤ length b.now }
@@ -50,21 +48,12 @@ pub fn tail_good(b: &[u8], at: usize, sum: u8) -> bool
         & (b[at + 6] == 1)
 }
 
-fn wide(n: usize) -> u64
-    ensures { result ≡ n }
-{
-    n as u64
-}
-
 // The number of 9, against the length of the body.
 pub fn length_good(v: &[u8], n: usize) -> bool
     requires { n < 9223372036854775808 }
     ensures { result ≡ is_number (in_digits v.now) n }
 {
-    let Number::Is(x) = fix_digits::number_in(v) else {
-        return false;
-    };
-    x == wide(n)
+    fix_digits::number_in(v) == Some(n as u64)
 }
 
 // D, F or G
@@ -74,48 +63,49 @@ fn kind_good(kind: u8) -> bool
     (kind == 68) | (kind == 70) | (kind == 71)
 }
 
-#[derive(Clone, Copy)]
-pub enum Frame {
-    // The type's byte; the fields behind 35, which end where 10 begins
-    Of { kind: u8, start: usize, end: usize },
-    Wrong,
+// The type's byte; the fields behind 35, which end where 10 begins.
+#[derive(Clone, Copy, PartialEq, Eq)]
+pub struct Frame {
+    pub kind: u8,
+    pub start: usize,
+    pub end: usize,
 }
 
 // What stands before and behind the fields, with length and sum.
-pub fn frame_of(bytes: &[u8]) -> Frame
+pub fn frame_of(bytes: &[u8]) -> Option<Frame>
     ensures { FrameFound bytes.now result }
 {
     let n = bytes.len();
     if n < 26 {
-        return Frame::Wrong;
+        return None;
     }
     if bytes[n - 1] != 1 {
-        return Frame::Wrong;
+        return None;
     }
     if !head_good(bytes) {
-        return Frame::Wrong;
+        return None;
     }
     let nine = fix_fields::end_of(bytes, 12);
     if n - nine < 13 {
-        return Frame::Wrong;
+        return None;
     }
     let end = n - 7;
     if !type_good(bytes, nine + 1) {
-        return Frame::Wrong;
+        return None;
     }
     let kind = bytes[nine + 4];
     if !kind_good(kind) {
-        return Frame::Wrong;
+        return None;
     }
     if !length_good(&bytes[12..nine], end - (nine + 1)) {
-        return Frame::Wrong;
+        return None;
     }
     if !tail_good(bytes, end, fix_digits::byte_sum(&bytes[..end])) {
-        return Frame::Wrong;
+        return None;
     }
-    Frame::Of {
+    Some(Frame {
         kind,
         start: nine + 6,
         end,
-    }
+    })
 }

@@ -1,9 +1,8 @@
 -- The definitions on small messages, by computation; the bar is byte 1.
-use Rattle.std.specs.Prelude.{if◌then◌else◌}
+use Rattle.std.specs.Prelude.{if◌then◌else◌, None, Some}
 use Prim.Native.Nat.{ℕ}
 use mathlib.Core.Path.{◌≡◌, refl}
 use mathlib.Core.List.{List, [], ◌∷◌}
-use mathlib.Core.Option.{none, some}
 use lib.Dec.{eqb}
 use lib.IntN.{pos, negsuc}
 use Rattle.rules.specs.declared.Side.TheVariants.{Buy, Sell}
@@ -77,11 +76,11 @@ side_padded = refl
 
 -- ---- dates
 leap_2000 : time_in (ascii "20000229-23:59:59.999")
-    ≡ some (record { year = 2000; month = 2; day = 29; hour = 23; minute = 59; second = 59; millis = 999 })
+    ≡ Some (record { year = 2000; month = 2; day = 29; hour = 23; minute = 59; second = 59; millis = 999 })
 unfolding all_digits number_from has_form parts_of is_leap month_days good_date good_clock time_in
 leap_2000 = refl
 
-no_leap_1900 : time_in (ascii "19000229-00:00:00.000") ≡ none
+no_leap_1900 : time_in (ascii "19000229-00:00:00.000") ≡ None
 unfolding all_digits number_from has_form parts_of is_leap month_days good_date good_clock time_in
 no_leap_1900 = refl
 

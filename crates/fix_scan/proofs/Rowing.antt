@@ -1,10 +1,10 @@
 -- The words of a row.
+use Rattle.std.proofs.Common.{None, Some}
 use Prim.Native.Nat.{ℕ, zero, suc, ◌+◌, ◌-◌, ◌*◌, ◌≤◌, ◌<◌}
 use native.Mathlib.Omega.{arith}
 use mathlib.Core.Path.{◌≡◌, sym, ap, ◌∙◌}
 use mathlib.Core.Bool.{Bool, true, false, true≢false}
 use mathlib.Core.List.{List, ◌∷◌, ◌++◌, append-nil}
-use mathlib.Core.Option.{none, some}
 use borrow.Author.Fill.{fill_more}
 use lib.ListN.{length, take, drop, set, replicate, length-append, length-replicate, length-drop, drop_of_length-le}
 use lib.Seq.{drop-length, take_all}
@@ -44,11 +44,11 @@ wrong_words (suc (suc (suc (suc n)))) at x h e = λ i. e i ∷ 0 ∷ 20 ∷ 0 �
 pub wrong-put : (w : List ℕ) (n at x : ℕ) → 4 ≤ n → w ≡ replicate n 0 → x ≡ at → set (set w 0 x) 2 20 ≡ at ∷ 0 ∷ 20 ∷ 0 ∷ replicate (n - 4) 0
 wrong-put w n at x h e q = ap (λ (l : List ℕ). set (set l 0 x) 2 20) e ∙ wrong_words n at x h q
 
-pub no_row : (tags m : List ℕ) → any_body_in m ≡ none → row_in tags m ≡ none
+pub no_row : (tags m : List ℕ) → any_body_in m ≡ None → row_in tags m ≡ None
 unfolding row_in
 no_row tags m e = ap (row_by (length m) tags) e
 
-pub wrong_turn : (tags m : List ℕ) (at k n : ℕ) (w : List ℕ) → n ≡ width_of tags → w ≡ at ∷ 0 ∷ 20 ∷ 0 ∷ replicate (n - 4) 0 → row_in tags m ≡ none
+pub wrong_turn : (tags m : List ℕ) (at k n : ℕ) (w : List ℕ) → n ≡ width_of tags → w ≡ at ∷ 0 ∷ 20 ∷ 0 ∷ replicate (n - 4) 0 → row_in tags m ≡ None
     → turn_by tags at k (row_in tags m) ≡ row w 1
 wrong_turn tags m at k n w h e q =
     ap (turn_by tags at k) q ∙ ap (λ (l : List ℕ). row (at ∷ 0 ∷ 20 ∷ 0 ∷ l) 1) (ap (λ (j : ℕ). replicate j 0) (let p : 2 * length tags ≡ n - 4 = omega arith in p))
@@ -56,30 +56,30 @@ wrong_turn tags m at k n w h e q =
 
 -- ---- the row of a message
 module _ (tags m : List ℕ) (kind start end : ℕ) (F : Framed m kind start end) where
-  pub unspanned : closed (drop start m) ≡ none → any_body_in m ≡ none
+  pub unspanned : closed (drop start m) ≡ None → any_body_in m ≡ None
   unspanned e = F.body ∙ ap (any_body_with F.type) e
 
-  pub spanned : (fs : List Field) (spans : List ℕ) → closed (drop start m) ≡ some fs → end ≡ start + length (fields_bytes fs) → spans ≡ spans_in start tags fs
-      → row_in tags m ≡ some (length m ∷ 0 ∷ kind ∷ spans)
+  pub spanned : (fs : List Field) (spans : List ℕ) → closed (drop start m) ≡ Some fs → end ≡ start + length (fields_bytes fs) → spans ≡ spans_in start tags fs
+      → row_in tags m ≡ Some (length m ∷ 0 ∷ kind ∷ spans)
   unfolding row_in
   spanned fs spans e h s =
       ap (row_by (length m) tags) (F.body ∙ ap (any_body_with F.type) e)
-      ∙ (λ i. some (length m ∷ 0 ∷ sym F.packs i ∷ (ap (λ (k : ℕ). spans_in k tags fs) begin ∙ sym s) i))
+      ∙ (λ i. Some (length m ∷ 0 ∷ sym F.packs i ∷ (ap (λ (k : ℕ). spans_in k tags fs) begin ∙ sym s) i))
     where
       begin : length m - (length (fields_bytes fs) + 7) ≡ start
       begin = omega (arith, F.ends.seven)
 
-  pub not_spanned : (spans : List ℕ) (good : Bool) → AnySpans m start end tags spans good → good ≡ false → row_in tags m ≡ none
+  pub not_spanned : (spans : List ℕ) (good : Bool) → AnySpans m start end tags spans good → good ≡ false → row_in tags m ≡ None
   not_spanned spans good (found fs g e h s) b = absurd (true≢false (sym g ∙ b))
   not_spanned spans good (wrong g e) b = no_row tags m (unspanned e)
 
-  pub is_spanned : (spans : List ℕ) (good : Bool) → AnySpans m start end tags spans good → good ≡ true → row_in tags m ≡ some (length m ∷ 0 ∷ kind ∷ spans)
+  pub is_spanned : (spans : List ℕ) (good : Bool) → AnySpans m start end tags spans good → good ≡ true → row_in tags m ≡ Some (length m ∷ 0 ∷ kind ∷ spans)
   is_spanned spans good (found fs g e h s) b = spanned fs spans e h s
   is_spanned spans good (wrong g e) b = absurd (true≢false (sym b ∙ g))
 
 -- what is put: the front of four words, then the words of the tags
 pub message_turn : (tags m : List ℕ) (at n kind x y : ℕ) (zeros spans w : List ℕ) → 4 ≤ n → zeros ≡ replicate n 0 → w ≡ take 4 zeros ++ spans
-    → x ≡ at → y ≡ length m → row_in tags m ≡ some (length m ∷ 0 ∷ kind ∷ spans)
+    → x ≡ at → y ≡ length m → row_in tags m ≡ Some (length m ∷ 0 ∷ kind ∷ spans)
     → turn_by tags at (length m) (row_in tags m) ≡ row (set (set (set w 0 x) 1 y) 3 kind) (length m)
 message_turn tags m at n kind x y zeros spans w h z e p q r =
     ap (turn_by tags at (length m)) r

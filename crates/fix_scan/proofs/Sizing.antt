@@ -1,19 +1,18 @@
 -- What a message says of its own length.
-use Rattle.std.specs.Prelude.{if◌then◌else◌}
+use Rattle.std.specs.Prelude.{if◌then◌else◌, Option, None, Some, option_map}
 use Prim.Native.Nat.{ℕ, zero, suc, ◌+◌, ◌-◌, ◌≤◌, ◌<◌}
 use native.Mathlib.Numerals.{add-one}
 use native.Mathlib.Omega.{arith}
 use mathlib.Core.Path.{◌≡◌, refl, sym, ap, ◌∙◌}
 use mathlib.Core.Bool.{Bool, true, false, ◌&&◌, true≢false, and-false}
 use mathlib.Core.List.{List, [], ◌∷◌, ◌++◌}
-use mathlib.Core.Option.{Option, none, some}
 use borrow.Author.Tests.{eq-eqb, ne_eqb, le-leb, lt-leb, leb-false}
 use lib.Dec.{eqb, leb}
 use lib.ListN.{length, get_or, take, drop, length-drop, take-append-drop}
 use lib.Seq.{get_or-drop, drop-drop, drop-cons, take_all}
 use Rattle.rules.specs.Digits.{is_digit, in_digits}
 use Rattle.rules.specs.Fields.{same_bytes}
-use Rattle.fix_digits.specs.Answers.{capped_by}
+use Rattle.fix_digits.specs.Capped.{capped}
 use Rattle.fix_digits.proofs.Numbers.{gone}
 use Rattle.fix_fields.proofs.Tags.{digit_not_one}
 use Rattle.fix_fields.proofs.SlotTags.{same_is, same_refl}
@@ -155,7 +154,7 @@ module _ (b : List ℕ) (at : ℕ) (room : at + 26 ≤ length b) where
   unfolding bytes
   behind = drop-drop 12 at b
 
-  pub no_head : head_right (drop at b) ≡ false → none ≡ size_in (drop at b)
+  pub no_head : head_right (drop at b) ≡ false → None ≡ size_in (drop at b)
   unfolding size_in bytes
   no_head e = rw (sym (head-same bytes (omega (arith, long))) ∙ e) refl
 
@@ -163,11 +162,11 @@ module _ (b : List ℕ) (at : ℕ) (room : at + 26 ≤ length b) where
   unfolding bytes
   with-head t e = sym (head-same bytes (omega (arith, long))) ∙ e
 
-  not_ended : (ds : List ℕ) → (get_or bytes (12 + length ds) 0 ≡ 1 → ⊥) → none ≡ size_with bytes ds
+  not_ended : (ds : List ℕ) → (get_or bytes (12 + length ds) 0 ≡ 1 → ⊥) → None ≡ size_with bytes ds
   not_ended ds n = rw (ne_eqb (get_or bytes (12 + length ds) 0) 1 n, and-false (same_bytes (take 12 bytes) head)) refl
 
   module _ (nine : ℕ) (q : nine ≡ at + 12 + length (digits_front 14 (drop (at + 12) b))) where
-    pub too_long : at + 12 + 14 ≤ nine → none ≡ size_in (drop at b)
+    pub too_long : at + 12 + 14 ≤ nine → None ≡ size_in (drop at b)
     unfolding size_in bytes
     too_long h =
         let all : length (digits_front 14 (drop (at + 12) b)) ≡ 14 = omega (arith, front_most 14 (drop (at + 12) b)) in
@@ -199,42 +198,42 @@ module _ (b : List ℕ) (at : ℕ) (room : at + 26 ≤ length b) where
           get_or-drop at b (12 + length (digits_front 13 (drop 12 bytes))) 0
           ∙ ap (λ (k : ℕ). get_or b k 0) (let p : at + (12 + length (digits_front 13 (drop 12 bytes))) ≡ nine = omega (arith, digits_long) in p)
 
-      pub no_end : (get_or b nine 0 ≡ 1 → ⊥) → none ≡ size_in (drop at b)
+      pub no_end : (get_or b nine 0 ≡ 1 → ⊥) → None ≡ size_in (drop at b)
       unfolding size_in bytes
       no_end n = not_ended (digits_front 13 (drop 12 bytes)) (λ e. n (sym end_byte ∙ e))
 
-      either : (t : Bool) (o : Option ℕ) → none ≡ o → none ≡ (if t then o else none)
+      either : (t : Bool) (o : Option ℕ) → None ≡ o → None ≡ (if t then o else None)
       either true o e = e
       either false o e = refl
 
-      none_by : none ≡ size_by (12 + length (digits_front 13 (drop 12 bytes)) + 1) (in_digits (digits_front 13 (drop 12 bytes))) → none ≡ size_in (drop at b)
+      none_by : None ≡ size_by (12 + length (digits_front 13 (drop 12 bytes)) + 1) (in_digits (digits_front 13 (drop 12 bytes))) → None ≡ size_in (drop at b)
       unfolding size_in bytes
       none_by e =
           either (same_bytes (take 12 bytes) head && eqb (get_or bytes (12 + length (digits_front 13 (drop 12 bytes))) 0) 1)
           (size_by (12 + length (digits_front 13 (drop 12 bytes)) + 1) (in_digits (digits_front 13 (drop 12 bytes)))) e
 
-      pub no_number : none ≡ capped_by (in_digits (take (nine - (at + 12)) (drop (at + 12) b))) → none ≡ size_in (drop at b)
+      pub no_number : None ≡ option_map capped (in_digits (take (nine - (at + 12)) (drop (at + 12) b))) → None ≡ size_in (drop at b)
       unfolding value
       no_number e =
           none_by
           (sym (ap (size_by (12 + length (digits_front 13 (drop 12 bytes)) + 1)) (ap in_digits digits_are ∙ gone (in_digits value) e)))
 
-      module _ (n : ℕ) (e : some n ≡ capped_by (in_digits (take (nine - (at + 12)) (drop (at + 12) b)))) where
-        pub too_large : 65535 < n → none ≡ size_in (drop at b)
+      module _ (n : ℕ) (e : Some n ≡ option_map capped (in_digits (take (nine - (at + 12)) (drop (at + 12) b)))) where
+        pub too_large : 65535 < n → None ≡ size_in (drop at b)
         unfolding value
         too_large h =
             none_by (large (in_digits value) e ∙ sym (ap (λ (l : List ℕ). size_by (12 + length (digits_front 13 (drop 12 bytes)) + 1) (in_digits l)) digits_are))
           where
-            by : (m : ℕ) (t : Bool) → leb m 18446744073709551609 ≡ t → some n ≡ some (if t then m else 18446744073709551615)
-                → none ≡ size_by (12 + length (digits_front 13 (drop 12 bytes)) + 1) (some m)
+            by : (m : ℕ) (t : Bool) → leb m 18446744073709551609 ≡ t → Some n ≡ Some (if t then m else 18446744073709551615)
+                → None ≡ size_by (12 + length (digits_front 13 (drop 12 bytes)) + 1) (Some m)
             by m true p q = let same : n ≡ m = cc in rw (lt-leb m 65535 (omega arith)) refl
             by m false p q = rw (lt-leb m 65535 (let z = leb-false m 18446744073709551609 p in omega arith)) refl
 
-            large : (o : Option ℕ) → some n ≡ capped_by o → none ≡ size_by (12 + length (digits_front 13 (drop 12 bytes)) + 1) o
-            large none q = absurd (let z : ◌≡◌ {A = ℕ} 0 1 = cc in omega arith)
-            large (some m) q = by m (leb m 18446744073709551609) refl q
+            large : (o : Option ℕ) → Some n ≡ option_map capped o → None ≡ size_by (12 + length (digits_front 13 (drop 12 bytes)) + 1) o
+            large None q = absurd (let z : ◌≡◌ {A = ℕ} 0 1 = cc in omega arith)
+            large (Some m) q = by m (leb m 18446744073709551609) refl q
 
-        pub size_right : n ≤ 65535 → head_right (drop at b) ≡ true → get_or b nine 0 ≡ 1 → some (nine - at + 8 + n) ≡ size_in (drop at b)
+        pub size_right : n ≤ 65535 → head_right (drop at b) ≡ true → get_or b nine 0 ≡ 1 → Some (nine - at + 8 + n) ≡ size_in (drop at b)
         unfolding size_in bytes value
         size_right h g o =
             rw (with-head true g, eq-eqb (get_or bytes (12 + length (digits_front 13 (drop 12 bytes))) 0) 1 (end_byte ∙ o))
@@ -243,11 +242,11 @@ module _ (b : List ℕ) (at : ℕ) (room : at + 26 ≤ length b) where
             total : (m : ℕ) → n ≡ m → nine - at + 8 + n ≡ 12 + length (digits_front 13 (drop 12 bytes)) + 1 + m + 7
             total m p = omega (arith, digits_long, q)
 
-            by : (m : ℕ) (t : Bool) → leb m 18446744073709551609 ≡ t → some n ≡ some (if t then m else 18446744073709551615)
-                → some (nine - at + 8 + n) ≡ size_by (12 + length (digits_front 13 (drop 12 bytes)) + 1) (some m)
-            by m true p q = let same : n ≡ m = cc in rw (le-leb m 65535 (omega arith)) (ap some (total m same))
+            by : (m : ℕ) (t : Bool) → leb m 18446744073709551609 ≡ t → Some n ≡ Some (if t then m else 18446744073709551615)
+                → Some (nine - at + 8 + n) ≡ size_by (12 + length (digits_front 13 (drop 12 bytes)) + 1) (Some m)
+            by m true p q = let same : n ≡ m = cc in rw (le-leb m 65535 (omega arith)) (ap Some (total m same))
             by m false p q = let same : n ≡ 18446744073709551615 = cc in absurd (omega arith)
 
-            right : (o : Option ℕ) → some n ≡ capped_by o → some (nine - at + 8 + n) ≡ size_by (12 + length (digits_front 13 (drop 12 bytes)) + 1) o
-            right none q = absurd (let z : ◌≡◌ {A = ℕ} 0 1 = cc in omega arith)
-            right (some m) q = by m (leb m 18446744073709551609) refl q
+            right : (o : Option ℕ) → Some n ≡ option_map capped o → Some (nine - at + 8 + n) ≡ size_by (12 + length (digits_front 13 (drop 12 bytes)) + 1) o
+            right None q = absurd (let z : ◌≡◌ {A = ℕ} 0 1 = cc in omega arith)
+            right (Some m) q = by m (leb m 18446744073709551609) refl q

@@ -1,12 +1,9 @@
 -- What private functions promise: the next place where a message begins, a message's own length, and one row.
-use Rattle.std.specs.Prelude.{ℕ, ◌+◌, ◌≤◌, ◌<◌, ◌≡◌, true, false, List, length, drop}
-use Rattle.std.proofs.Math.Option.{Option, none, some}
+use Rattle.std.specs.Prelude.{ℕ, ◌+◌, ◌≤◌, ◌<◌, ◌≡◌, true, false, List, length, drop, Option, None, Some}
 use Rattle.fix_scan_rules.specs.Wanted.{wanted_tags}
 use Rattle.fix_scan_rules.specs.Scans.{size_in, begins, turn_of, row, cut}
 use Rattle.fix_tag_spans.specs.Slots.{SlotTable}
 use Rattle.fix_scan.specs.RowsDone.{width_of}
-use Rattle.fix_scan.specs.declared.Size.{Size}
-use Rattle.fix_scan.specs.declared.Size.TheVariants as S
 use Rattle.fix_scan.specs.declared.Part.{Part}
 use Rattle.fix_scan.specs.declared.Part.TheVariants as P
 
@@ -18,15 +15,11 @@ pub record NextStart (b : List ℕ) (from r : ℕ) : Type 0 where
   pub none : (k : ℕ) → from ≤ k → k < r → begins (drop k b) ≡ false
   pub found : r + 26 ≤ length b → begins (drop r b) ≡ true
 
-abbrev pub shown_size : Size → Option ℕ
-shown_size (S.Is n) = some n
-shown_size S.Wrong = none
-
 -- a message whole, cut off by the end of the bytes, or without a length to go by
 abbrev pub PartIs : List ℕ → Part → Type 0
-PartIs bytes (P.Whole n) = (size_in bytes ≡ some n) × (n ≤ length bytes)
-PartIs bytes P.Cut = (n : ℕ) × (size_in bytes ≡ some n) × (length bytes < n)
-PartIs bytes P.Wrong = size_in bytes ≡ none
+PartIs bytes (P.Whole n) = (size_in bytes ≡ Some n) × (n ≤ length bytes)
+PartIs bytes P.Cut = (n : ℕ) × (size_in bytes ≡ Some n) × (length bytes < n)
+PartIs bytes P.Wrong = size_in bytes ≡ None
 
 pub record RowAsked (tags slots row : List ℕ) (at : ℕ) : Type 0 where
   pub wide : length row ≡ width_of tags

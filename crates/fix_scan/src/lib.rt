@@ -5,10 +5,9 @@ ghost use Rattle.std.specs.Prelude.{◌≡◌, ◌∷◌, ◌+◌, ◌-◌, ◌*
 ghost use Rattle.fix_scan_rules.specs.Rows.{row_in};
 ghost use Rattle.fix_scan_rules.specs.Scans.{digits_front, size_in, begins, turn_by, row};
 ghost use Rattle.fix_scan.specs.RowsDone.{RowsAsked, RowsDone};
-ghost use Rattle.fix_scan.specs.Internal.{NextStart, shown_size, PartIs, RowAsked, TurnDone};
+ghost use Rattle.fix_scan.specs.Internal.{NextStart, PartIs, RowAsked, TurnDone};
 
-use fix_any_frame::AnyFrame;
-use fix_digits::{Number, is_digit};
+use fix_digits::is_digit;
 
 // 8=FIX.
 fn starts(b: &[u8], at: usize) -> bool
@@ -28,14 +27,16 @@ fn next_start(b: &[u8], from: usize) -> usize
     requires { from ≤ length b.now }
     ensures { NextStart b.now from result }
 {
-    let mut i = from;
-    while i + 26 <= b.len() {
+    let end = b.len().saturating_sub(25);
+    for i in from..end {
         if starts(b, i) {
             return i;
         }
-        i += 1;
     }
-    i
+    if from < end {
+        return end;
+    }
+    from
 }
 
 // The first byte from a byte on that is no digit, fourteen bytes on at most.
@@ -44,57 +45,47 @@ fn digits_end(b: &[u8], from: usize) -> usize
     ensures { result ≡ from + length (digits_front 14 (drop from b.now)) }
 {
     let most = from + 14;
-    let mut i = from;
-    while i < most {
+    for i in from..most {
         if !is_digit(b[i]) {
             return i;
         }
-        i += 1;
     }
     most
 }
 
-// What a message says of its own length: so many bytes in all, or nothing that could be so.
-#[derive(Clone, Copy)]
-pub enum Size {
-    Is(usize),
-    Wrong,
-}
-
-fn whole_size(before: usize, n: u64) -> Size
+fn whole_size(before: usize, n: u64) -> usize
     requires { (n ≤ 65535) × (before ≤ 100) }
-    ensures { result ≡ Size.Is (before + 8 + n) }
+    ensures { result ≡ before + 8 + n }
 {
-    Size::Is(before + 8 + (n as usize))
+    before + 8 + (n as usize)
 }
 
+// All bytes of a message, as it says itself, or nothing that could be so.
 // By a 9 of thirteen digits at most, and at most 65,535. The place has 26 bytes from there on.
-fn size_at(b: &[u8], at: usize) -> Size
+fn size_at(b: &[u8], at: usize) -> Option<usize>
     requires { at + 26 ≤ length b.now }
-    ensures { shown_size result ≡ size_in (drop at b.now) }
+    ensures { result ≡ size_in (drop at b.now) }
 {
     if !fix_frame::head_good(&b[at..]) {
-        return Size::Wrong;
+        return None;
     }
     let from = at + 12;
     let nine = digits_end(b, from);
     if from + 14 <= nine {
-        return Size::Wrong;
+        return None;
     }
     if b[nine] != 1 {
-        return Size::Wrong;
+        return None;
     }
-    let Number::Is(n) = fix_digits::number_in(&b[from..nine]) else {
-        return Size::Wrong;
-    };
+    let n = fix_digits::number_in(&b[from..nine])?;
     if 65535 < n {
-        return Size::Wrong;
+        return None;
     }
-    whole_size(nine - at, n)
+    Some(whole_size(nine - at, n))
 }
 
 // A message's bytes: whole, cut off by the end, or with no length to go by.
-#[derive(Clone, Copy)]
+#[derive(Clone, Copy, PartialEq, Eq)]
 pub enum Part {
     Whole(usize),
     Cut,
@@ -105,7 +96,7 @@ fn part_at(b: &[u8], at: usize) -> Part
     requires { at + 26 ≤ length b.now }
     ensures { PartIs (drop at b.now) result }
 {
-    let Size::Is(n) = size_at(b, at) else {
+    let Some(n) = size_at(b, at) else {
         return Part::Wrong;
     };
     if b.len() - at < n {
@@ -117,11 +108,7 @@ fn part_at(b: &[u8], at: usize) -> Part
 fn clear(words: &mut [u32])
     ensures { words.new ≡ replicate (length words.old) 0 }
 {
-    let mut i = 0;
-    while i < words.len() {
-        words[i] = 0;
-        i += 1;
-    }
+    words.fill(0);
 }
 
 fn word(n: usize) -> u32
@@ -146,18 +133,18 @@ fn put_row(m: &[u8], at: usize, tags: &[u32], slots: &[u8; 1000], words: &mut [u
     requires { RowAsked tags.now slots.now words.old at × (length m.now < 2147483648) }
     ensures { turn_by tags.now at (length m.now) (row_in tags.now m.now) ≡ row words.new result }
 {
-    let AnyFrame::Of { kind, start, end } = fix_any_frame::frame_any(m) else {
+    let Some(frame) = fix_any_frame::frame_any(m) else {
         put_wrong(at, words);
         return 1;
     };
     clear(words);
-    if !fix_tag_spans::spans_any(m, start, end, tags, slots, &mut words[4..]) {
+    if !fix_tag_spans::spans_any(m, frame.start, frame.end, tags, slots, &mut words[4..]) {
         put_wrong(at, words);
         return 1;
     }
     words[0] = word(at);
     words[1] = word(m.len());
-    words[3] = kind;
+    words[3] = frame.kind;
     m.len()
 }
 
@@ -180,7 +167,7 @@ fn turn(b: &[u8], at: usize, tags: &[u32], slots: &[u8; 1000], row: &mut [u32]) 
 }
 
 // After the last row, and the first byte that was not read.
-#[derive(Clone, Copy)]
+#[derive(Clone, Copy, PartialEq, Eq)]
 pub struct Stop {
     pub used: usize,
     pub at: usize,

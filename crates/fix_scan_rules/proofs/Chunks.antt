@@ -1,6 +1,6 @@
 -- Chunks make no difference: the rows of some bytes and others after them are those of the first bytes up to where their scan stops, then
 -- those from there on. The scan looks at no byte after the message that it decides on.
-use Rattle.std.specs.Prelude.{if◌then◌else◌}
+use Rattle.std.specs.Prelude.{if◌then◌else◌, Option, None, Some}
 use Prim.Native.Nat.{ℕ, zero, suc, ◌+◌, ◌-◌, ◌≤◌, ◌<◌}
 use native.Mathlib.Nat.{add-zero}
 use native.Mathlib.Numerals.{add-one}
@@ -8,7 +8,6 @@ use native.Mathlib.Omega.{arith}
 use mathlib.Core.Path.{◌≡◌, refl, sym, ap, ◌∙◌}
 use mathlib.Core.Bool.{Bool, true, false, ◌&&◌}
 use mathlib.Core.List.{List, [], ◌∷◌, ◌++◌, map, append_assoc}
-use mathlib.Core.Option.{Option, none, some}
 use borrow.Author.Tests.{le-ltb, ltb-true, ltb-false}
 use lib.Dec.{eqb, leb, ltb}
 use lib.ListN.{length, get_or, take, drop, length-append, length-drop, get_or-append}
@@ -48,7 +47,7 @@ module _ (l m : List ℕ) (long : 26 ≤ length l) where
       ap (size_with (l ++ m)) digits
       ∙ (λ i.
       if same_bytes (take-append-le 12 l m (omega arith) i) head && eqb (get_or-append l m 0 (12 + length (digits_front 13 (drop 12 l))) inside i) 1
-      then size_by (12 + length (digits_front 13 (drop 12 l)) + 1) (in_digits (digits_front 13 (drop 12 l))) else none)
+      then size_by (12 + length (digits_front 13 (drop 12 l)) + 1) (in_digits (digits_front 13 (drop 12 l))) else None)
     where
       digits : digits_front 13 (drop 12 (l ++ m)) ≡ digits_front 13 (drop 12 l)
       digits = ap (digits_front 13) (drop-append-le 12 l m (omega arith)) ∙ front-more 13 (drop 12 l) m (omega (arith, length-drop 12 l))
@@ -61,29 +60,29 @@ pub data Case (tags : List ℕ) (at : ℕ) (l : List ℕ) : Type 0 where
   cut_off : turn_of tags at l ≡ cut → Case tags at l
   made : (r : List ℕ) (n : ℕ) → turn_of tags at l ≡ row r n → 1 ≤ n → n ≤ length l → ((m : List ℕ) → turn_of tags at (l ++ m) ≡ row r n) → Case tags at l
 
-size-positive : (l : List ℕ) (n : ℕ) → size_in l ≡ some n → 1 ≤ n
+size-positive : (l : List ℕ) (n : ℕ) → size_in l ≡ Some n → 1 ≤ n
 unfolding size_in
 size-positive l n e =
     by (same_bytes (take 12 l) head && eqb (get_or l (12 + length (digits_front 13 (drop 12 l))) 0) 1) (in_digits (digits_front 13 (drop 12 l))) e
   where
-    some_size : (k : ℕ) (t : Bool) → (if t then some (12 + length (digits_front 13 (drop 12 l)) + 1 + k + 7) else none) ≡ some n → 1 ≤ n
+    some_size : (k : ℕ) (t : Bool) → (if t then Some (12 + length (digits_front 13 (drop 12 l)) + 1 + k + 7) else None) ≡ Some n → 1 ≤ n
     some_size k true e = let is : 12 + length (digits_front 13 (drop 12 l)) + 1 + k + 7 ≡ n = cc in omega arith
     some_size k false e = absurd (let z : ◌≡◌ {A = ℕ} 0 1 = cc in omega arith)
 
-    by : (t : Bool) (o : Option ℕ) → (if t then size_by (12 + length (digits_front 13 (drop 12 l)) + 1) o else none) ≡ some n → 1 ≤ n
-    by true none e = absurd (let z : ◌≡◌ {A = ℕ} 0 1 = cc in omega arith)
-    by true (some k) e = some_size k (leb k 65535) e
+    by : (t : Bool) (o : Option ℕ) → (if t then size_by (12 + length (digits_front 13 (drop 12 l)) + 1) o else None) ≡ Some n → 1 ≤ n
+    by true None e = absurd (let z : ◌≡◌ {A = ℕ} 0 1 = cc in omega arith)
+    by true (Some k) e = some_size k (leb k 65535) e
     by false o e = absurd (let z : ◌≡◌ {A = ℕ} 0 1 = cc in omega arith)
 
 module _ (tags : List ℕ) (at : ℕ) (l : List ℕ) (long : 26 ≤ length l) where
-  by_row : (n : ℕ) → size_in l ≡ some n → n ≤ length l → (o : Option (List ℕ)) → row_in tags (take n l) ≡ o → Case tags at l
+  by_row : (n : ℕ) → size_in l ≡ Some n → n ≤ length l → (o : Option (List ℕ)) → row_in tags (take n l) ≡ o → Case tags at l
   unfolding turn_of
-  by_row n e h none q =
+  by_row n e h None q =
       made (wrong_row tags at) 1 (ap (turn_with tags at l) e ∙ rw (le-ltb (length l) n h) (ap (turn_by tags at n) q)) (omega arith) (omega arith)
       (λ m.
       ap (turn_with tags at (l ++ m)) (size-more l m long ∙ e)
       ∙ rw (le-ltb (length (l ++ m)) n (omega (arith, length-append l m)), take-append-le n l m h) (ap (turn_by tags at n) q))
-  by_row n e h (some r) q =
+  by_row n e h (Some r) q =
       made (at ∷ r) n (ap (turn_with tags at l) e ∙ rw (le-ltb (length l) n h) (ap (turn_by tags at n) q)) (size-positive l n e) h
       (λ m.
       ap (turn_with tags at (l ++ m)) (size-more l m long ∙ e)
@@ -93,14 +92,14 @@ module _ (tags : List ℕ) (at : ℕ) (l : List ℕ) (long : 26 ≤ length l) wh
   unfolding turn_of
   case_of = by (size_in l) refl
     where
-      sized : (n : ℕ) → size_in l ≡ some n → (t : Bool) → ltb (length l) n ≡ t → Case tags at l
+      sized : (n : ℕ) → size_in l ≡ Some n → (t : Bool) → ltb (length l) n ≡ t → Case tags at l
       sized n e true q = cut_off (ap (turn_with tags at l) e ∙ rw q refl)
       sized n e false q = by_row n e (ltb-false (length l) n q) (row_in tags (take n l)) refl
 
       by : (o : Option ℕ) → size_in l ≡ o → Case tags at l
-      by none e =
+      by None e =
           made (wrong_row tags at) 1 (ap (turn_with tags at l) e) (omega arith) (omega arith) (λ m. ap (turn_with tags at (l ++ m)) (size-more l m long ∙ e))
-      by (some n) e = sized n e (ltb (length l) n) refl
+      by (Some n) e = sized n e (ltb (length l) n) refl
 
 -- ---- all of them
 -- a scan that stopped, and one from there on
@@ -228,16 +227,16 @@ unfolding turn_of
 turn_moved k tags at l = by (size_in l)
   where
     rowed : (n : ℕ) (o : Option (List ℕ)) → turn_by tags (k + at) n o ≡ moved_turn k (turn_by tags at n o)
-    rowed n none = refl
-    rowed n (some r) = refl
+    rowed n None = refl
+    rowed n (Some r) = refl
 
     whole : (n : ℕ) (t : Bool) → (if t then cut else turn_by tags (k + at) n (row_in tags (take n l))) ≡ moved_turn k (if t then cut else turn_by tags at n (row_in tags (take n l)))
     whole n true = refl
     whole n false = rowed n (row_in tags (take n l))
 
     by : (o : Option ℕ) → turn_with tags (k + at) l o ≡ moved_turn k (turn_with tags at l o)
-    by none = refl
-    by (some n) = whole n (ltb (length l) n)
+    by None = refl
+    by (Some n) = whole n (ltb (length l) n)
 
 found-moved : (k room at : ℕ) (t : Turn) (go go' : ℕ → ℕ → Scan) → ((left n : ℕ) → go' left n ≡ moved_by k (go left n))
     → S.found room (k + at) (moved_turn k t) go' ≡ moved_by k (S.found room at t go)

@@ -1,13 +1,12 @@
 -- What a row says. A row of status 0 is that of a message at its place; any other says that 8=FIX. begins there and no message is there.
 -- The words of a tag are the place, the length and the repeat of its first value.
-use Rattle.std.specs.Prelude.{if◌then◌else◌}
+use Rattle.std.specs.Prelude.{if◌then◌else◌, Option, None, Some}
 use Prim.Native.Nat.{ℕ, zero, suc, ◌+◌, ◌-◌, ◌≤◌}
 use native.Mathlib.Numerals.{add-one}
 use native.Mathlib.Omega.{arith}
 use mathlib.Core.Path.{◌≡◌, refl, sym, ap, subst, ◌∙◌}
 use mathlib.Core.Bool.{Bool, true, false, ◌||◌}
 use mathlib.Core.List.{List, [], ◌∷◌, ◌++◌, append_assoc}
-use mathlib.Core.Option.{Option, none, some}
 use borrow.Author.Tests.{ltb-false, lt-ltb}
 use lib.Dec.{ltb}
 use lib.ListN.{length, take, drop, length-append}
@@ -21,16 +20,16 @@ use Rattle.fix_scan_rules.specs.Scans as S
 
 -- ---- rows
 pub data Says (tags b : List ℕ) : List ℕ → Type 0 where
-  message : (at n : ℕ) (body : AnyBody) → n ≤ length (drop at b) → any_body_in (take n (drop at b)) ≡ some body → Says tags b (at ∷ row_with n tags body)
+  message : (at n : ℕ) (body : AnyBody) → n ≤ length (drop at b) → any_body_in (take n (drop at b)) ≡ Some body → Says tags b (at ∷ row_with n tags body)
   broken : (at : ℕ) → begins (drop at b) ≡ true → Says tags b (wrong_row tags at)
 
-row_says : (tags b : List ℕ) (at n : ℕ) (r : List ℕ) → n ≤ length (drop at b) → row_in tags (take n (drop at b)) ≡ some r → Says tags b (at ∷ r)
+row_says : (tags b : List ℕ) (at n : ℕ) (r : List ℕ) → n ≤ length (drop at b) → row_in tags (take n (drop at b)) ≡ Some r → Says tags b (at ∷ r)
 unfolding row_in
 row_says tags b at n r h e = by (any_body_in (take n (drop at b))) refl e
   where
-    by : (o : Option AnyBody) → any_body_in (take n (drop at b)) ≡ o → row_by (length (take n (drop at b))) tags o ≡ some r → Says tags b (at ∷ r)
-    by none q e = absurd (let z : ◌≡◌ {A = ℕ} 0 1 = cc in omega arith)
-    by (some body) q e =
+    by : (o : Option AnyBody) → any_body_in (take n (drop at b)) ≡ o → row_by (length (take n (drop at b))) tags o ≡ Some r → Says tags b (at ∷ r)
+    by None q e = absurd (let z : ◌≡◌ {A = ℕ} 0 1 = cc in omega arith)
+    by (Some body) q e =
         let is : row_with (length (take n (drop at b))) tags body ≡ r = cc in
         subst (λ (x : List ℕ). Says tags b (at ∷ x)) (ap (λ (k : ℕ). row_with k tags body) (sym (length-take-le n (drop at b) h)) ∙ is) (message at n body h q)
 
@@ -42,8 +41,8 @@ turn_says tags b at l r n d g e = by (size_in l) e
     wrong k e = let is : wrong_row tags at ≡ r = cc in subst (Says tags b) is (broken at (ap begins d ∙ g))
 
     rowed : (k : ℕ) → k ≤ length l → (o : Option (List ℕ)) → row_in tags (take k l) ≡ o → turn_by tags at k o ≡ row r n → Says tags b r
-    rowed k h none q e = wrong n e
-    rowed k h (some x) q e =
+    rowed k h None q e = wrong n e
+    rowed k h (Some x) q e =
         let is : at ∷ x ≡ r = cc in
         subst (Says tags b) is (row_says tags b at k x (rw d h) (ap (λ (m : List ℕ). row_in tags (take k m)) d ∙ q))
 
@@ -52,8 +51,8 @@ turn_says tags b at l r n d g e = by (size_in l) e
     whole k false q e = rowed k (ltb-false (length l) k q) (row_in tags (take k l)) refl e
 
     by : (o : Option ℕ) → turn_with tags at l o ≡ row r n → Says tags b r
-    by none e = wrong n e
-    by (some k) e = whole k (ltb (length l) k) refl e
+    by None e = wrong n e
+    by (Some k) e = whole k (ltb (length l) k) refl e
 
 drop_one : (b : List ℕ) (at x : ℕ) (l : List ℕ) → drop at b ≡ x ∷ l → drop (suc at) b ≡ l
 drop_one b at x l d = ap (λ (k : ℕ). drop k b) (sym (add-one at)) ∙ sym (drop-drop 1 at b) ∙ ap (drop 1) d

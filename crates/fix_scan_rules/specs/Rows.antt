@@ -1,6 +1,5 @@
 -- The row of a message: its length, its status, its type, and where the first value of each wanted tag is.
-use Rattle.std.specs.Prelude.{ℕ, ◌+◌, ◌-◌, ◌*◌, List, [], ◌∷◌, length, if◌then◌else◌}
-use Rattle.std.proofs.Math.Option.{Option, none, some}
+use Rattle.std.specs.Prelude.{ℕ, ◌+◌, ◌-◌, ◌*◌, List, [], ◌∷◌, length, if◌then◌else◌, Option, None, Some}
 use Rattle.lists.specs.Lists.{any}
 use Rattle.rules.specs.Digits.{decimal_of}
 use Rattle.rules.specs.Fields.{Field, field_bytes, fields_bytes, has_tag}
@@ -36,8 +35,8 @@ abbrev pub row_with : ℕ → List ℕ → AnyBody → List ℕ
 row_with size tags b = size ∷ 0 ∷ packed b.kind ∷ spans_in (size - (length (fields_bytes b.fields) + 7)) tags b.fields
 
 abbrev pub row_by : ℕ → List ℕ → Option AnyBody → Option (List ℕ)
-row_by size tags none = none
-row_by size tags (some b) = some (row_with size tags b)
+row_by size tags None = None
+row_by size tags (Some b) = Some (row_with size tags b)
 
 -- the row of a message without its place, or nothing where the bytes are no message
 unfoldable pub row_in : List ℕ → List ℕ → Option (List ℕ)

@@ -1,6 +1,5 @@
 -- The rows of a log.
-use Rattle.std.specs.Prelude.{ℕ, zero, suc, ◌+◌, ◌-◌, ◌*◌, Bool, ◌&&◌, List, [], ◌∷◌, ◌++◌, eqb, leb, ltb, length, get_or, take, drop, replicate, if◌then◌else◌}
-use Rattle.std.proofs.Math.Option.{Option, none, some}
+use Rattle.std.specs.Prelude.{ℕ, zero, suc, ◌+◌, ◌-◌, ◌*◌, Bool, ◌&&◌, List, [], ◌∷◌, ◌++◌, eqb, leb, ltb, length, get_or, take, drop, replicate, if◌then◌else◌, Option, None, Some}
 use Rattle.rules.specs.Text.{ascii}
 use Rattle.rules.specs.Digits.{is_digit, in_digits}
 use Rattle.rules.specs.Fields.{same_bytes}
@@ -18,12 +17,12 @@ abbrev pub head : List ℕ
 head = ascii "8=FIX.4.4" ++ (1 ∷ ascii "9=")
 
 abbrev pub size_by : ℕ → Option ℕ → Option ℕ
-size_by before none = none
-size_by before (some n) = if leb n 65535 then some (before + n + 7) else none
+size_by before None = None
+size_by before (Some n) = if leb n 65535 then Some (before + n + 7) else None
 
 abbrev pub size_with : List ℕ → List ℕ → Option ℕ
 size_with bytes nine =
-    if same_bytes (take 12 bytes) head && eqb (get_or bytes (12 + length nine) 0) 1 then size_by (12 + length nine + 1) (in_digits nine) else none
+    if same_bytes (take 12 bytes) head && eqb (get_or bytes (12 + length nine) 0) 1 then size_by (12 + length nine + 1) (in_digits nine) else None
 
 -- all bytes of the message, by a 9 of thirteen digits at most that says 65,535 at most
 unfoldable pub size_in : List ℕ → Option ℕ
@@ -40,12 +39,12 @@ abbrev pub wrong_row : List ℕ → ℕ → List ℕ
 wrong_row tags at = at ∷ 0 ∷ 20 ∷ 0 ∷ replicate (2 * length tags) 0
 
 abbrev pub turn_by : List ℕ → ℕ → ℕ → Option (List ℕ) → Turn
-turn_by tags at n none = row (wrong_row tags at) 1
-turn_by tags at n (some r) = row (at ∷ r) n
+turn_by tags at n None = row (wrong_row tags at) 1
+turn_by tags at n (Some r) = row (at ∷ r) n
 
 abbrev pub turn_with : List ℕ → ℕ → List ℕ → Option ℕ → Turn
-turn_with tags at bytes none = row (wrong_row tags at) 1
-turn_with tags at bytes (some n) = if ltb (length bytes) n then cut else turn_by tags at n (row_in tags (take n bytes))
+turn_with tags at bytes None = row (wrong_row tags at) 1
+turn_with tags at bytes (Some n) = if ltb (length bytes) n then cut else turn_by tags at n (row_in tags (take n bytes))
 
 unfoldable pub turn_of : List ℕ → ℕ → List ℕ → Turn
 turn_of tags at bytes = turn_with tags at bytes (size_in bytes)

@@ -1,10 +1,10 @@
 -- The search for wanted tags, turn by turn.
+use Rattle.std.proofs.Common.{None, Some}
 use Prim.Native.Nat.{ℕ, suc, ◌+◌, ◌*◌, ◌-◌, ◌≤◌, ◌<◌}
 use native.Mathlib.Omega.{arith}
 use mathlib.Core.Path.{◌≡◌, refl, sym, ap, subst, ◌∙◌}
 use mathlib.Core.Bool.{Bool, true, false}
 use mathlib.Core.List.{List, [], ◌∷◌, ◌++◌, append-nil}
-use mathlib.Core.Option.{none, some}
 use borrow.Author.Tests.{eqb-true, eqb-false, leb-true, leb-false, eq-eqb, ne_eqb}
 use lib.Dec.{eqb, leb}
 use lib.ListN.{length, get_or, take, drop, length-drop, length-append, drop_of_length-le, length-replicate}
@@ -59,7 +59,7 @@ module _ (b : List ℕ) (start end : ℕ) (tags slots spans₀ : List ℕ) (A : 
     same_size = P.words.size ∙ sym (ap length A.zeros ∙ length-replicate (2 * length tags) 0)
 
     -- nothing good comes after
-    pub stops : closed (drop place b) ≡ none → AnySpans b start end tags spans false
+    pub stops : closed (drop place b) ≡ None → AnySpans b start end tags spans false
     stops h = wrong refl (P.so_far ∙ ap (all_in_front P.fs) h ∙ front-none P.fs)
 
     -- the end
@@ -67,10 +67,10 @@ module _ (b : List ℕ) (start end : ℕ) (tags slots spans₀ : List ℕ) (A : 
     unfolding E
     at-end e =
         found P.fs refl
-        (P.so_far ∙ ap (λ (n : ℕ). all_in_front P.fs (closed (drop n b))) e ∙ ap (all_in_front P.fs) E.ten ∙ front_some P.fs [] ∙ ap some (append-nil P.fs))
+        (P.so_far ∙ ap (λ (n : ℕ). all_in_front P.fs (closed (drop n b))) e ∙ ap (all_in_front P.fs) E.ten ∙ front_some P.fs [] ∙ ap Some (append-nil P.fs))
         (sym e ∙ P.is) (all_words start tags spans P.fs P.words)
 
-    past_end : end < place → closed (drop place b) ≡ none
+    past_end : end < place → closed (drop place b) ≡ None
     unfolding E
     past_end h = ap closed (drop_of_length-le b (by (leb (length b) place) refl)) ∙ closed-end
       where
@@ -93,10 +93,10 @@ module _ (b : List ℕ) (start end : ℕ) (tags slots spans₀ : List ℕ) (A : 
       unfolding E
       long = rw (length-drop place b) (omega (arith, E.seven))
 
-      pub framed : slot ≡ 255 → closed (drop place b) ≡ none
+      pub framed : slot ≡ 255 → closed (drop place b) ≡ None
       framed e = by T
         where
-          by : AnyTag b slots place slot next → closed (drop place b) ≡ none
+          by : AnyTag b slots place slot next → closed (drop place b) ≡ None
           by (tag t g q h is) = framed_tag (drop place b) t (drop next b) g q (frame_slot tags slots A.wanted A.table t g (sym is ∙ e)) long
           by (bad s h) = closed_bad (drop place b) (λ z. omega (arith, long)) h
 
@@ -121,11 +121,11 @@ module _ (b : List ℕ) (start end : ℕ) (tags slots spans₀ : List ℕ) (A : 
         pub slot_small : (slot ≡ 0 → ⊥) → slot ≤ 254
         slot_small z = let r = slot_room z in omega (arith, r.1, few tags A.wanted)
 
-        pub emptied : get_or b next 0 ≡ 1 → closed (drop place b) ≡ none
+        pub emptied : get_or b next 0 ≡ 1 → closed (drop place b) ≡ None
         unfolding clear
         emptied e = by T
           where
-            by : AnyTag b slots place slot next → closed (drop place b) ≡ none
+            by : AnyTag b slots place slot next → closed (drop place b) ≡ None
             by (tag t g q h is) =
                 turn_empty (drop place b) t [] (drop (suc next) b) g refl
                 (q ∙ ap (λ (l : List ℕ). t ++ (61 ∷ l)) (drop-cons b next 0 h ∙ ap (λ (x : ℕ). x ∷ drop (suc next) b) e)) refl
@@ -149,8 +149,8 @@ module _ (b : List ℕ) (start end : ℕ) (tags slots spans₀ : List ℕ) (A : 
           further spans' t g q h is w =
               let far = tag_length b t place next q h in
               let cut = q ∙ ap (λ (l : List ℕ). t ++ (61 ∷ l)) (split_value b next to wide) in
-              let some : 0 < length value = omega (arith, value_long, r.first) in
-              let body = turn_body (drop place b) t value (drop (to + 1) b) g (value-clear b next to wide) cut some
+              let filled : 0 < length value = omega (arith, value_long, r.first) in
+              let body = turn_body (drop place b) t value (drop (to + 1) b) g (value-clear b next to wide) cut filled
               (λ s. n (is ∙ slot_frame tags slots A.wanted A.table t g s)) in
               record {
                 fs = P.fs ++ (record { tag = t; value = value } ∷ []);

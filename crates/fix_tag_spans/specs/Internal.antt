@@ -1,6 +1,5 @@
 -- What is found where a tag should be, and how a value is noted.
-use Rattle.std.specs.Prelude.{ℕ, ◌+◌, ◌-◌, ◌*◌, ◌<◌, ◌≡◌, true, false, List, ◌∷◌, ◌++◌, eqb, leb, ltb, length, get_or, drop, set, if◌then◌else◌}
-use Rattle.std.proofs.Math.Option.{none}
+use Rattle.std.specs.Prelude.{ℕ, ◌+◌, ◌-◌, ◌*◌, ◌<◌, ◌≡◌, true, false, List, ◌∷◌, ◌++◌, eqb, leb, ltb, length, get_or, drop, set, if◌then◌else◌, None}
 use Rattle.rules.specs.Digits.{is_digit, all_digits, number_from}
 use Rattle.rules.specs.Fields.{good_tag, field_of}
 use Rattle.fix_fields.specs.Tags.{piece_of}
@@ -12,7 +11,7 @@ tag_slot slots t = if leb (length t) 3 then get_or slots (number_from 0 t) 0 els
 -- a tag and its equals sign, with its slot and the place after; or slot 255, where none begins
 pub data AnyTag (b slots : List ℕ) (at slot next : ℕ) : Type 0 where
   tag : (t : List ℕ) → good_tag t ≡ true → drop at b ≡ t ++ (61 ∷ drop next b) → next < length b → slot ≡ tag_slot slots t → AnyTag b slots at slot next
-  bad : slot ≡ 255 → field_of (piece_of (drop at b)) ≡ none → AnyTag b slots at slot next
+  bad : slot ≡ 255 → field_of (piece_of (drop at b)) ≡ None → AnyTag b slots at slot next
 
 -- the digits from the fourth on, and after them the equals sign, or another byte
 pub data LongTag (b : List ℕ) (from slot next : ℕ) : Type 0 where

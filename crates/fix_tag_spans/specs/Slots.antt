@@ -1,6 +1,5 @@
 -- The table of slots, and where the values of the wanted tags are.
-use Rattle.std.specs.Prelude.{ℕ, ◌+◌, ◌*◌, ◌<◌, ◌≡◌, Bool, true, false, List, length, get_or, drop, replicate}
-use Rattle.std.proofs.Math.Option.{none, some}
+use Rattle.std.specs.Prelude.{ℕ, ◌+◌, ◌*◌, ◌<◌, ◌≡◌, Bool, true, false, List, length, get_or, drop, replicate, None, Some}
 use Rattle.rules.specs.Fields.{Field, fields_bytes}
 use Rattle.fix_fields.specs.Spans.{closed, EndsAt}
 use Rattle.fix_scan_rules.specs.Wanted.{wanted_tags, slot_for}
@@ -25,6 +24,6 @@ pub record SpansAsked (b : List ℕ) (start end : ℕ) (tags slots spans : List 
 
 -- what it finds: the fields up to 10 with the words of each tag, or there are none
 pub data AnySpans (b : List ℕ) (start end : ℕ) (tags spans : List ℕ) (good : Bool) : Type 0 where
-  found : (fs : List Field) → good ≡ true → closed (drop start b) ≡ some fs → end ≡ start + length (fields_bytes fs) → spans ≡ spans_in start tags fs
+  found : (fs : List Field) → good ≡ true → closed (drop start b) ≡ Some fs → end ≡ start + length (fields_bytes fs) → spans ≡ spans_in start tags fs
       → AnySpans b start end tags spans good
-  wrong : good ≡ false → closed (drop start b) ≡ none → AnySpans b start end tags spans good
+  wrong : good ≡ false → closed (drop start b) ≡ None → AnySpans b start end tags spans good

@@ -10,7 +10,7 @@ ghost use Rattle.fix_tag_spans.specs.Internal.{AnyTag, LongTag, ThirdTag, noted_
 use fix_digits::is_digit;
 
 // The slot of a tag and the byte after its equals sign; slot 255 is for no tag, too.
-#[derive(Clone, Copy)]
+#[derive(Clone, Copy, PartialEq, Eq)]
 pub struct SlotTag {
     pub slot: u8,
     pub next: usize,
@@ -55,9 +55,7 @@ pub fn slots_of(tags: &[u32], slots: &mut [u8; 1000]) -> bool
     slots[9] = 255;
     slots[8] = 255;
     slots[0] = 255;
-    let mut i = 0;
-    while i < tags.len() {
-        let tag = tags[i];
+    for (i, &tag) in tags.iter().enumerate() {
         if 999 < tag {
             return false;
         }
@@ -69,20 +67,16 @@ pub fn slots_of(tags: &[u32], slots: &mut [u8; 1000]) -> bool
             return false;
         }
         slots[at] = place(i);
-        i += 1;
     }
     true
 }
 
-// The rest of a tag of four digits or more: the last byte is no digit, so the search ends.
+// The rest of a tag of four digits or more.
 fn long_tag(b: &[u8], from: usize) -> SlotTag
     requires { ClosedFrom b.now from }
     ensures { LongTag b.now from result.slot result.next }
 {
-    let mut i = from;
-    while is_digit(b[i]) {
-        i += 1;
-    }
+    let i = fix_fields::digits_end(b, from);
     if b[i] == 61 {
         return SlotTag {
             slot: 0,

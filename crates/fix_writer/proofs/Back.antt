@@ -1,10 +1,10 @@
 -- A message that is written reads back.
+use Rattle.std.proofs.Common.{Some}
 use Prim.Native.Nat.{ℕ, ◌+◌, ◌/◌, ◌%◌}
 use native.Mathlib.Omega.{arith}
 use mathlib.Core.Path.{◌≡◌, refl, ap, ◌∙◌}
 use mathlib.Core.Bool.{true, false}
 use mathlib.Core.List.{List, [], ◌∷◌, ◌++◌}
-use mathlib.Core.Option.{some}
 use borrow.Author.Tests.{eq-eqb}
 use lib.ListN.{length}
 use Rattle.rules.specs.declared.Side.{Side}
@@ -19,13 +19,14 @@ use Rattle.rules.specs.Frame.{version_tag, length_tag, type_tag, checksum_tag, v
 use Rattle.rules.specs.Messages.{id_tag, orig_tag, side_tag, volume_tag, price_tag, time_tag, Message, new_order, cancel_order, replace_order, message_of, readable, read_body, read_message, field_with, terms_fields, written_fields, kind_of, time_of, with_time, counted_by, message_bytes}
 use Rattle.fix_fields.proofs.Pieces.{clear, clear-cons}
 use Rattle.fix_writer.specs.Claims.{NumbersFit, ReadsBack}
-use Rattle.fix_writer.specs.Internal.{is_some, is_time}
+use Rattle.fix_writer.specs.Internal.{is_time}
+use Rattle.std.specs.Option.{is_some}
 use Rattle.fix_writer.proofs.Fields.{Sound, AllSound, all_none, all_more, all-again, sound_append, same-again, digits_clear, form-clear}
 use Rattle.fix_writer.proofs.Values.{number-again, word-again, steps-again, side_again, some_value, decimal_clear, decimal_value, signed_clear, signed_value, side_clear, side_value}
 use Rattle.fix_writer.proofs.Framing.{time_formed, time_length}
 
 -- ---- every field that is written is one
-a_time : (v : List ℕ) (t : Timestamp) → time_in v ≡ some t → is_time v ≡ true
+a_time : (v : List ℕ) (t : Timestamp) → time_in v ≡ Some t → is_time v ≡ true
 unfolding is_time
 a_time v t e = ap is_some e
 
@@ -41,7 +42,7 @@ tag_is : (good_tag id_tag ≡ true) × (good_tag orig_tag ≡ true) × (good_tag
 unfolding good_tag all_digits
 tag_is = (refl, refl, refl, refl, refl, refl, refl, refl, refl, refl)
 
-time_field : (v : List ℕ) (t : Timestamp) → time_in v ≡ some t → AllSound (field_with time_tag v ∷ [])
+time_field : (v : List ℕ) (t : Timestamp) → time_in v ≡ Some t → AllSound (field_with time_tag v ∷ [])
 time_field v t e =
     let is = a_time v t e in
     all_more (record { tag = tag_is.5; clean = form-clear form v form_is_clear (time_formed v is); value = some_value v (omega (arith, time_length v is)) }) all_none
@@ -52,7 +53,7 @@ terms_sound side volume price =
     (all_more (number_field volume_tag tag_is.3 volume.0)
     (all_more (record { tag = tag_is.4; clean = signed_clear price.0; value = signed_value price.0 }) all_none))
 
-written_sound : (m : Message (List ℕ)) (t : Timestamp) → time_in (time_of m) ≡ some t → AllSound (written_fields m)
+written_sound : (m : Message (List ℕ)) (t : Timestamp) → time_in (time_of m) ≡ Some t → AllSound (written_fields m)
 unfolding written_fields
 written_sound (new_order id side volume price sixty) t e =
     all_more (number_field id_tag tag_is.0 id) (sound_append (terms_sound side volume price) (time_field sixty t e))
@@ -87,12 +88,12 @@ unfolding clear
 version_sound = record { tag = tag_is.6; clean = refl; value = refl }
 
 -- ---- the frame
-ending_is : (fs : List Field) (f : Field) → ending_of (fs ++ (f ∷ [])) ≡ some (record { front = fs; last = f })
+ending_is : (fs : List Field) (f : Field) → ending_of (fs ++ (f ∷ [])) ≡ Some (record { front = fs; last = f })
 unfolding ending_of
 ending_is [] f = refl
 ending_is (g ∷ fs) f = ap (behind g) (ending_is fs f)
 
-kind_again : (k : Kind) → kind_in (kind_text k) ≡ some k
+kind_again : (k : Kind) → kind_in (kind_text k) ≡ Some k
 unfolding kind_in same_bytes
 kind_again new = refl
 kind_again cancel = refl
@@ -125,7 +126,7 @@ frame_good : (k : Kind) (fs : List Field) → any is_frame_tag fs ≡ false
 unfolding same_bytes
 frame_good k fs h = rw (length_again (field_with type_tag (kind_text k) ∷ fs), h, sum-again (counted_by (field_with type_tag (kind_text k) ∷ fs))) refl
 
-module _ (m : Message (List ℕ)) (t : Timestamp) (e : time_in (time_of m) ≡ some t) where
+module _ (m : Message (List ℕ)) (t : Timestamp) (e : time_in (time_of m) ≡ Some t) where
   -- 35 and the fields after it
   abbrev counted : List Field
   counted = field_with type_tag (kind_text (kind_of m)) ∷ written_fields m
@@ -136,22 +137,22 @@ module _ (m : Message (List ℕ)) (t : Timestamp) (e : time_in (time_of m) ≡ s
       (all_more (number_field length_tag tag_is.7 (length (fields_bytes counted)))
       (all_more (kind_sound (kind_of m)) (sound_append (written_sound m t e) (all_more (check_sound (sum (fields_bytes (counted_by counted)) % 256)) all_none))))
 
-  fields-again : fields_of (message_bytes m) ≡ some (counted_by counted ++ (check_field (counted_by counted) ∷ []))
+  fields-again : fields_of (message_bytes m) ≡ Some (counted_by counted ++ (check_field (counted_by counted) ∷ []))
   unfolding message_bytes
   fields-again = all-again (counted_by counted ++ (check_field (counted_by counted) ∷ [])) all_sound
 
-  framed-again : framed (counted_by counted ++ (check_field (counted_by counted) ∷ [])) ≡ some (record { kind = kind_of m; fields = written_fields m })
+  framed-again : framed (counted_by counted ++ (check_field (counted_by counted) ∷ [])) ≡ Some (record { kind = kind_of m; fields = written_fields m })
   unfolding framed
   framed-again =
       ap (framed_by (field_with version_tag version) (size_field counted) (field_with type_tag (kind_text (kind_of m)))) (ending_is (written_fields m) (check_field (counted_by counted)))
       ∙ rw (frame_good (kind_of m) (written_fields m) (no_frame_tag m), kind_again (kind_of m)) refl
 
-  pub body_again : body_in (message_bytes m) ≡ some (record { kind = kind_of m; fields = written_fields m })
+  pub body_again : body_in (message_bytes m) ≡ Some (record { kind = kind_of m; fields = written_fields m })
   unfolding body_in
   body_again = ap framed_in fields-again ∙ framed-again
 
 -- ---- the values
-fields_say : (m : Message (List ℕ)) (t : Timestamp) → NumbersFit m → time_in (time_of m) ≡ some t → message_of (kind_of m) (written_fields m) ≡ some (with_time m t)
+fields_say : (m : Message (List ℕ)) (t : Timestamp) → NumbersFit m → time_in (time_of m) ≡ Some t → message_of (kind_of m) (written_fields m) ≡ Some (with_time m t)
 unfolding message_of written_fields values_of same_bytes
 fields_say (new_order id side volume price sixty) t n e =
     rw (word-again id n.0, side_again side, word-again volume.0 n.1, steps-again price.0 n.2, e) refl

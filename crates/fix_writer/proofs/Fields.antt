@@ -1,11 +1,10 @@
 -- Fields that are written are read again.
-use Rattle.std.specs.Prelude.{if◌then◌else◌}
+use Rattle.std.specs.Prelude.{if◌then◌else◌, Some}
 use Prim.Native.Nat.{ℕ}
 use native.Mathlib.Omega.{arith}
 use mathlib.Core.Path.{◌≡◌, refl, sym, ap, ◌∙◌}
 use mathlib.Core.Bool.{Bool, true, false, not, true≢false}
 use mathlib.Core.List.{List, [], ◌∷◌, ◌++◌, append_assoc}
-use mathlib.Core.Option.{some}
 use borrow.Author.Tests.{eq-eqb, ne_eqb, eqb-true}
 use lib.Dec.{eqb, leb}
 use Rattle.rules.specs.Digits.{is_digit, all_digits}
@@ -40,7 +39,7 @@ form-clear (p ∷ ps) (b ∷ bs) c h =
     not_one p e q = true≢false (sym (ap (λ (x : ℕ). eqb x 1) q) ∙ e)
 
 -- ---- one field
-pub split_again : (t v : List ℕ) → all_digits t ≡ true → split_field (t ++ (61 ∷ v)) ≡ some (record { tag = t; value = v })
+pub split_again : (t v : List ℕ) → all_digits t ≡ true → split_field (t ++ (61 ∷ v)) ≡ Some (record { tag = t; value = v })
 unfolding all_digits split_field
 split_again [] v h = refl
 split_again (b ∷ t) v h =
@@ -58,14 +57,14 @@ unfolding good_tag
 tag_digits [] h = absurd (true≢false (sym h))
 tag_digits (b ∷ t) h = (both (all_digits (b ∷ t)) (not (eqb b 48)) h).0
 
-pub field_again : (f : Field) → Sound f → field_of (f.tag ++ (61 ∷ f.value)) ≡ some f
+pub field_again : (f : Field) → Sound f → field_of (f.tag ++ (61 ∷ f.value)) ≡ Some f
 unfolding field_of
 field_again f s = ap good_field (split_again f.tag f.value (tag_digits f.tag s.tag)) ∙ rw (s.tag, s.value) refl
 
 piece_clear : (f : Field) → Sound f → clear (f.tag ++ (61 ∷ f.value)) ≡ true
 piece_clear f s = clear-append f.tag (61 ∷ f.value) (digits_clear f.tag (tag_digits f.tag s.tag)) (clear-cons 61 f.value (λ e. omega arith) s.clean)
 
-pub one_again : (f : Field) (rest : List ℕ) → Sound f → fields_of (field_bytes f ++ rest) ≡ add_field (some f) (fields_of rest)
+pub one_again : (f : Field) (rest : List ℕ) → Sound f → fields_of (field_bytes f ++ rest) ≡ add_field (Some f) (fields_of rest)
 unfolding field_bytes
 one_again f rest s =
     ap fields_of (regroup f.tag f.value rest)
@@ -80,14 +79,14 @@ pub data AllSound : List Field → Type 0 where
   all_none : AllSound []
   all_more : {f : Field} {fs : List Field} → Sound f → AllSound fs → AllSound (f ∷ fs)
 
-no_fields : fields_of [] ≡ some []
+no_fields : fields_of [] ≡ Some []
 unfolding fields_of pieces fields_in
 no_fields = refl
 
-pub all-again : (fs : List Field) → AllSound fs → fields_of (fields_bytes fs) ≡ some fs
+pub all-again : (fs : List Field) → AllSound fs → fields_of (fields_bytes fs) ≡ Some fs
 unfolding fields_bytes
 all-again [] s = no_fields
-all-again (f ∷ fs) (all_more s ss) = one_again f (fields_bytes fs) s ∙ ap (add_field (some f)) (all-again fs ss)
+all-again (f ∷ fs) (all_more s ss) = one_again f (fields_bytes fs) s ∙ ap (add_field (Some f)) (all-again fs ss)
 
 pub sound_append : {fs gs : List Field} → AllSound fs → AllSound gs → AllSound (fs ++ gs)
 sound_append all_none t = t

@@ -1,11 +1,10 @@
 -- The frame laid around the fields, and the text that is answered.
-use Rattle.std.specs.Prelude.{if◌then◌else◌}
+use Rattle.std.specs.Prelude.{if◌then◌else◌, Option, None, Some, is_some, Ok, Err}
 use Prim.Native.Nat.{ℕ, ◌-◌, ◌%◌, ◌≤◌}
 use native.Mathlib.Omega.{arith}
 use mathlib.Core.Path.{◌≡◌, refl, sym, ap, subst, ◌∙◌}
 use mathlib.Core.Bool.{Bool, true, false, ◌&&◌, true≢false}
 use mathlib.Core.List.{List, [], ◌∷◌, ◌++◌, append_assoc, append-nil}
-use mathlib.Core.Option.{Option, none, some}
 use lib.ListN.{length, take, replicate, length-append, length-replicate}
 use lib.Seq.{take-append_seam, drop-append_seam}
 use Rattle.rules.specs.declared.Side.{Side}
@@ -14,6 +13,8 @@ use Rattle.rules.specs.declared.Steps.{Steps}
 use Rattle.rules.specs.declared.Timestamp.{Timestamp}
 use Rattle.lists.specs.Lists.{sum}
 use Rattle.rules.specs.Answers.{accepted, refused}
+use Rattle.rules.specs.declared.Refusal.TheVariants.{FieldWrong}
+use borrow.Author.Rules.{rules}
 use Rattle.rules.specs.Digits.{decimal_of, three_digits}
 use Rattle.rules.specs.Dates.{form, has_form, parts_of, good_date, good_clock, time_in}
 use Rattle.rules.specs.Fields.{Field, field_bytes, fields_bytes}
@@ -22,7 +23,7 @@ use Rattle.rules.specs.Messages.{Message, new_order, cancel_order, replace_order
 use Rattle.fix_dates.proofs.Forms.{form-length}
 use Rattle.fix_writer.specs.declared.MessageText.{MessageText}
 use Rattle.fix_writer.specs.Answers.{Writes}
-use Rattle.fix_writer.specs.Internal.{Laid, head_bytes, tail_bytes, framed_bytes, text_of, empty_text, is_some, is_time}
+use Rattle.fix_writer.specs.Internal.{Laid, head_bytes, tail_bytes, framed_bytes, text_of, is_time}
 use Rattle.fix_writer.proofs.Laying.{join, named, before, whole, whole-front, zeros_left}
 use Rattle.fix_writer.proofs.Decimals.{two_digits}
 
@@ -63,8 +64,8 @@ module _ (n : ℕ) (start mid fin : List ℕ) (end r len s : ℕ) (body : List �
       (join (replicate n 0) 0 all (named mid end (ap (λ (k : ℕ). field_bytes (field_with checksum_tag (three_digits k))) says) tail))
 
 pub closed_text : (t : List ℕ) (len : ℕ) (e : List ℕ) → Text 114 t len e
-    → (◌≡◌ {A = MessageText} (record { good = true; bytes = e; length = len }) (text_of t)) × (length t ≤ 114)
-closed_text t len e a = ((λ i. record { good = true; bytes = a.bytes i; length = a.long i }), a.most)
+    → (◌≡◌ {A = MessageText} (record { bytes = e; length = len }) (text_of t)) × (length t ≤ 114)
+closed_text t len e a = ((λ i. record { bytes = a.bytes i; length = a.long i }), a.most)
 
 -- ---- the definition says the same bytes
 pub fields-append : (fs gs : List Field) → fields_bytes (fs ++ gs) ≡ fields_bytes fs ++ fields_bytes gs
@@ -125,7 +126,7 @@ message_is m =
     checked_is (counted_by fs) ∙ ap (λ (l : List ℕ). l ++ tail_bytes l) (counted_is fs)
 
 -- ---- what is answered
-formed_of : (v : List ℕ) (g : Bool) → has_form form v ≡ g → is_some (if g && (good_date (parts_of v) && good_clock (parts_of v)) then some (parts_of v) else none) ≡ true → g ≡ true
+formed_of : (v : List ℕ) (g : Bool) → has_form form v ≡ g → is_some (if g && (good_date (parts_of v) && good_clock (parts_of v)) then Some (parts_of v) else None) ≡ true → g ≡ true
 formed_of v true e h = refl
 formed_of v false e h = absurd (true≢false (sym h))
 
@@ -138,40 +139,34 @@ time_length v h = form-length form v (time_formed v h)
 
 module _ (m : Message (List ℕ)) where
   written_by_lem : (o : Option Timestamp) (b : List ℕ) → is_some o ≡ true → accepted b ≡ written_by o b
-  written_by_lem none b h = absurd (true≢false (sym h))
-  written_by_lem (some t) b h = refl
+  written_by_lem None b h = absurd (true≢false (sym h))
+  written_by_lem (Some t) b h = refl
 
   refused_by : (o : Option Timestamp) (b : List ℕ) → is_some o ≡ false → refused 21 ≡ written_by o b
-  refused_by none b h = refl
-  refused_by (some t) b h = absurd (true≢false h)
+  refused_by None b h = refl
+  refused_by (Some t) b h = absurd (true≢false h)
 
-  pub written : (t : MessageText) → is_time (time_of m) ≡ true → t ≡ text_of (message_bytes m) → length (message_bytes m) ≤ 114 → Writes m t
+  pub written : (t : MessageText) → is_time (time_of m) ≡ true → t ≡ text_of (message_bytes m) → length (message_bytes m) ≤ 114 → Writes m (Ok t)
   unfolding write_message is_time
   written t h e most =
-      subst (Writes m) (sym e)
+      subst (λ (t : MessageText). Writes m (Ok t)) (sym e)
       (record {
         shows = ap accepted (take-append_seam (message_bytes m) (replicate (114 - length (message_bytes m)) 0)) ∙ written_by_lem (time_in (time_of m)) (message_bytes m) h;
-        long = omega (arith, length-append (message_bytes m) (replicate (114 - length (message_bytes m)) 0), length-replicate {A = ℕ} (114 - length (message_bytes m)) 0);
-        most = most;
-        zeros = drop-append_seam (message_bytes m) (replicate (114 - length (message_bytes m)) 0);
-        nothing = λ q. absurd (true≢false q);
+        text =
+            record {
+              long = omega (arith, length-append (message_bytes m) (replicate (114 - length (message_bytes m)) 0), length-replicate {A = ℕ} (114 - length (message_bytes m)) 0);
+              most = most;
+              zeros = drop-append_seam (message_bytes m) (replicate (114 - length (message_bytes m)) 0);
+            };
       })
 
-  pub unwritten : (t : MessageText) → is_time (time_of m) ≡ false → t ≡ empty_text → Writes m t
+  pub unwritten : is_time (time_of m) ≡ false → Writes m (Err FieldWrong)
   unfolding write_message is_time
-  unwritten t h e =
-      subst (Writes m) (sym e)
-      (record {
-        shows = refused_by (time_in (time_of m)) (message_bytes m) h;
-        long = refl;
-        most = omega arith;
-        zeros = refl;
-        nothing = λ q. refl;
-      })
+  unwritten h = record { shows = refused_by (time_in (time_of m)) (message_bytes m) h; text = search rules }
 
   -- from the bytes that are closed
   pub answered : (t : MessageText) (body : List ℕ) → is_time (time_of m) ≡ true → body ≡ body_bytes m
-      → (t ≡ text_of (framed_bytes body)) × (length (framed_bytes body) ≤ 114) → Writes m t
+      → (t ≡ text_of (framed_bytes body)) × (length (framed_bytes body) ≤ 114) → Writes m (Ok t)
   answered t body h e c =
       let is : framed_bytes body ≡ message_bytes m = ap framed_bytes e ∙ sym (message_is m) in
       written t h (c.0 ∙ ap text_of is) (subst (λ (l : List ℕ). length l ≤ 114) is c.1)

@@ -1,9 +1,9 @@
 -- How long a message is that is written.
+use Rattle.std.proofs.Common.{Some}
 use Prim.Native.Nat.{ℕ, suc, ◌+◌, ◌≤◌, ◌<◌}
 use native.Mathlib.Omega.{arith}
 use mathlib.Core.Path.{◌≡◌, refl, ap, ◌∙◌}
 use mathlib.Core.List.{List, [], ◌∷◌, ◌++◌}
-use mathlib.Core.Option.{some}
 use lib.IntN.{pos, negsuc}
 use lib.ListN.{length, length-append}
 use Rattle.rules.specs.declared.Side.{Side}
@@ -18,7 +18,8 @@ use Rattle.rules.specs.Fields.{Field, field_bytes, fields_bytes}
 use Rattle.rules.specs.Frame.{type_tag, new, cancel, replace, kind_text}
 use Rattle.rules.specs.Messages.{Message, new_order, cancel_order, replace_order, side_text, field_with, written_fields, time_of, message_bytes}
 use Rattle.fix_writer.specs.Claims.{NumbersFit, AtMost114, Longest}
-use Rattle.fix_writer.specs.Internal.{head_bytes, tail_bytes, framed_bytes, is_some, is_time}
+use Rattle.fix_writer.specs.Internal.{head_bytes, tail_bytes, framed_bytes, is_time}
+use Rattle.std.specs.Option.{is_some}
 use Rattle.fix_writer.proofs.Decimals.{ten_at_most, ten_digits}
 use Rattle.fix_writer.proofs.Numbers.{signed_at_most}
 use Rattle.fix_writer.proofs.Framing.{head-length, body_bytes, message_is, time_length}
@@ -76,7 +77,7 @@ body_most (replace_order id orig side volume price sixty) n h =
     let size = replace_length id orig side volume price sixty h in
     (omega arith, omega (arith, ten_at_most id n.0, ten_at_most orig n.1, ten_at_most volume.0 n.2, signed_at_most price.0 n.3))
 
-time_is : (v : List ℕ) (t : Timestamp) → time_in v ≡ some t → length v ≡ 21
+time_is : (v : List ℕ) (t : Timestamp) → time_in v ≡ Some t → length v ≡ 21
 unfolding is_time
 time_is v t e = time_length v (ap is_some e)
 

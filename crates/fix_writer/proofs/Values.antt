@@ -1,10 +1,10 @@
 -- The values that are written are read again.
+use Rattle.std.proofs.Common.{Some}
 use Prim.Native.Nat.{ℕ, suc, ◌≤◌, ◌<◌}
 use native.Mathlib.Omega.{arith}
 use mathlib.Core.Path.{◌≡◌, refl, ap, ◌∙◌}
 use mathlib.Core.Bool.{true}
 use mathlib.Core.List.{List, [], ◌∷◌}
-use mathlib.Core.Option.{some}
 use borrow.Author.Tests.{lt-ltb, ne_eqb}
 use lib.IntN.{ℤ, pos, negsuc}
 use lib.ListN.{length}
@@ -20,15 +20,15 @@ use Rattle.fix_writer.proofs.Decimals.{all_digits_lem, number_is, at_least_one}
 use Rattle.fix_writer.proofs.Fields.{digits_clear}
 
 -- ---- numbers
-in_digits_lem : (l : List ℕ) → all_digits l ≡ true → 1 ≤ length l → in_digits l ≡ some (number_from 0 l)
+in_digits_lem : (l : List ℕ) → all_digits l ≡ true → 1 ≤ length l → in_digits l ≡ Some (number_from 0 l)
 unfolding in_digits
 in_digits_lem [] h g = absurd (omega arith)
 in_digits_lem (b ∷ l) h g = rw h refl
 
-pub number-again : (n : ℕ) → in_digits (decimal_of n) ≡ some n
-number-again n = in_digits_lem (decimal_of n) (all_digits_lem n) (at_least_one n) ∙ ap some (number_is n)
+pub number-again : (n : ℕ) → in_digits (decimal_of n) ≡ Some n
+number-again n = in_digits_lem (decimal_of n) (all_digits_lem n) (at_least_one n) ∙ ap Some (number_is n)
 
-pub word-again : (n : ℕ) → Word n → word_in (decimal_of n) ≡ some n
+pub word-again : (n : ℕ) → Word n → word_in (decimal_of n) ≡ Some n
 unfolding word_in
 word-again n h = ap word_within (number-again n) ∙ rw (lt-ltb n 4294967296 h) refl
 
@@ -38,7 +38,7 @@ unfolding steps_in all_digits
 unsigned [] h g = absurd (omega arith)
 unsigned (b ∷ l) h g = let low = digit_from b (both (is_digit b) (all_digits l) h).0 in rw (ne_eqb b 45 (λ e. omega arith)) refl
 
-pub steps-again : (z : ℤ) → SignedWord z → steps_in (signed_decimal z) ≡ some z
+pub steps-again : (z : ℤ) → SignedWord z → steps_in (signed_decimal z) ≡ Some z
 unfolding signed_decimal steps_in
 steps-again (pos n) h =
     let small : n < 2147483648 = h in
@@ -47,7 +47,7 @@ steps-again (negsuc n) h =
     let small : n < 2147483648 = h in
     ap negative (number-again (suc n)) ∙ rw (lt-ltb n 2147483648 small) refl
 
-pub side_again : (s : Side) → side_in (side_text s) ≡ some s
+pub side_again : (s : Side) → side_in (side_text s) ≡ Some s
 unfolding side_in same_bytes
 side_again Buy = refl
 side_again Sell = refl

@@ -1,6 +1,5 @@
 -- Document 02, W11: what is claimed of the messages that are written. proofs/Claims shows it.
-use Rattle.std.specs.Prelude.{ℕ, ◌≤◌, ◌<◌, ◌≡◌, List, negsuc, length}
-use Rattle.std.proofs.Math.Option.{some}
+use Rattle.std.specs.Prelude.{ℕ, ◌≤◌, ◌<◌, ◌≡◌, List, negsuc, length, Some}
 use Rattle.rules.specs.declared.Side.{Side}
 use Rattle.rules.specs.declared.Timestamp.{Timestamp}
 use Rattle.rules.specs.Units.{steps, contracts}
@@ -17,18 +16,18 @@ NumbersFit (replace_order id orig side volume price sixty) = Word id × Word ori
 
 -- "read back to the same fields"
 abbrev pub ReadsBack : Message (List ℕ) → Type 0
-ReadsBack m = (t : Timestamp) → time_in (time_of m) ≡ some t → read_message (message_bytes m) ≡ accepted (with_time m t)
+ReadsBack m = (t : Timestamp) → time_in (time_of m) ≡ Some t → read_message (message_bytes m) ≡ accepted (with_time m t)
 
 -- "at most 114 bytes"
 abbrev pub AtMost114 : Message (List ℕ) → Type 0
-AtMost114 m = (t : Timestamp) → time_in (time_of m) ≡ some t → length (message_bytes m) ≤ 114
+AtMost114 m = (t : Timestamp) → time_in (time_of m) ≡ Some t → length (message_bytes m) ≤ 114
 
 -- a G whose numbers are the longest: ten digits each, and a minus sign before the price; `negsuc p` is -(p + 1)
 abbrev pub Longest : Type 0
 Longest =
     (id orig volume p : ℕ) (side : Side) (sixty : List ℕ) (t : Timestamp)
     → 1000000000 ≤ id → Word id → 1000000000 ≤ orig → Word orig → 1000000000 ≤ volume → Word volume → 999999999 ≤ p → p < 2147483648
-    → time_in sixty ≡ some t
+    → time_in sixty ≡ Some t
     → length (message_bytes (replace_order id orig side (contracts volume) (steps (negsuc p)) sixty)) ≡ 114
 
 pub record Claims : Type 0 where

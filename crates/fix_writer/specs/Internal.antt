@@ -1,6 +1,5 @@
 -- What the private functions promise each other.
-use Rattle.std.specs.Prelude.{ℕ, ◌+◌, ◌-◌, ◌%◌, ◌≤◌, ◌≡◌, Bool, true, false, List, ◌++◌, length, take, drop, replicate}
-use Rattle.std.proofs.Math.Option.{Option, none, some}
+use Rattle.std.specs.Prelude.{ℕ, ◌+◌, ◌-◌, ◌%◌, ◌≤◌, ◌≡◌, Bool, List, ◌++◌, length, take, drop, replicate, Option, None, Some, is_some}
 use Rattle.rules.specs.declared.Timestamp.{Timestamp}
 use Rattle.lists.specs.Lists.{sum}
 use Rattle.rules.specs.Digits.{decimal_of, three_digits}
@@ -32,19 +31,12 @@ framed_bytes body = let front = head_bytes (length body) ++ body in front ++ tai
 
 -- a text and zeros after it
 abbrev pub text_of : List ℕ → MessageText
-text_of bytes = record { good = true; bytes = bytes ++ replicate (114 - length bytes) 0; length = length bytes }
-
-abbrev pub empty_text : MessageText
-empty_text = record { good = false; bytes = replicate 114 0; length = 0 }
+text_of bytes = record { bytes = bytes ++ replicate (114 - length bytes) 0; length = length bytes }
 
 -- whichever bytes are from the fifteenth on, the text is theirs in the frame
 abbrev pub Closes : List ℕ → ℕ → MessageText → Type 0
 Closes start end t = (body : List ℕ) → Laid (replicate 114 0) 15 body end start → (t ≡ text_of (framed_bytes body)) × (length (framed_bytes body) ≤ 114)
 
 -- ---- whether bytes are a time
-abbrev pub is_some : Option Timestamp → Bool
-is_some none = false
-is_some (some t) = true
-
 unfoldable pub is_time : List ℕ → Bool
 is_time bytes = is_some (time_in bytes)

@@ -7,15 +7,13 @@ ghost use Rattle.rules.specs.Fields.{field_bytes, fields_bytes};
 ghost use Rattle.rules.specs.Frame.{type_tag, checksum_tag};
 ghost use Rattle.rules.specs.Messages.{new_order, cancel_order, replace_order, side_tag, price_tag, time_tag, side_text, field_with, terms_fields};
 ghost use Rattle.fix_writer.specs.Answers.{Writes};
-ghost use Rattle.fix_writer.specs.Internal.{Laid, head_bytes, is_time, Closes, empty_text};
+ghost use Rattle.fix_writer.specs.Internal.{Laid, head_bytes, is_time, Closes};
 
-use fix_dates::Time;
-use rules::{Contracts, Side, Steps};
+use rules::{Contracts, Refusal, Side, Steps};
 
-// A message's bytes up to the length, and zeros after them; or, where the 60 handed over is no time, no bytes.
-#[derive(Clone, Copy)]
+// A message's bytes up to the length, and zeros after them.
+#[derive(Clone, Copy, PartialEq, Eq)]
 pub struct MessageText {
-    pub good: bool,
     pub bytes: [u8; 114],
     pub length: usize,
 }
@@ -33,12 +31,9 @@ fn put_all(out: &mut [u8; 114], at: usize, v: &[u8]) -> usize
     requires { (length out.old ≡ 114) × (at + length v.now ≤ 114) }
     ensures { Laid out.old at v.now result out.new }
 {
-    let mut i = 0;
-    while i < v.len() {
-        out[at + i] = v[i];
-        i += 1;
-    }
-    at + i
+    let end = at + v.len();
+    out[at..end].copy_from_slice(v);
+    end
 }
 
 fn digit(n: u32) -> u8
@@ -171,60 +166,49 @@ fn closed(body: [u8; 114], end: usize) -> MessageText
     put_head(&mut bytes, end - 15);
     let sum = fix_digits::byte_sum(&bytes[..end]);
     let length = put_tail(&mut bytes, end, sum);
-    MessageText {
-        good: true,
-        bytes,
-        length,
-    }
-}
-
-fn refused() -> MessageText
-    ensures { result ≡ empty_text }
-{
-    MessageText {
-        good: false,
-        bytes: [0u8; 114],
-        length: 0,
-    }
+    MessageText { bytes, length }
 }
 
 fn time_good(sixty: &[u8]) -> bool
     ensures { result ≡ is_time sixty.now }
 {
-    match fix_dates::time_in(sixty) {
-        Time::At(_) => true,
-        Time::Not => false,
-    }
+    fix_dates::time_in(sixty).is_some()
 }
 
 // D
-pub fn write_new(id: u32, side: Side, volume: Contracts, price: Steps, sixty: &[u8]) -> MessageText
+pub fn write_new(
+    id: u32,
+    side: Side,
+    volume: Contracts,
+    price: Steps,
+    sixty: &[u8],
+) -> Result<MessageText, Refusal>
     ensures { Writes (new_order id side volume price sixty.now) result }
 {
     if !time_good(sixty) {
-        return refused();
+        return Err(Refusal::FieldWrong);
     }
     let mut bytes = [0u8; 114];
     let a = put_type(&mut bytes, 68);
     let b = put_word(&mut bytes, a, b"11=", id);
     let c = put_terms(&mut bytes, b, side, volume, price);
     let d = put_time(&mut bytes, c, sixty);
-    closed(bytes, d)
+    Ok(closed(bytes, d))
 }
 
 // F
-pub fn write_cancel(id: u32, orig: u32, sixty: &[u8]) -> MessageText
+pub fn write_cancel(id: u32, orig: u32, sixty: &[u8]) -> Result<MessageText, Refusal>
     ensures { Writes (cancel_order id orig sixty.now) result }
 {
     if !time_good(sixty) {
-        return refused();
+        return Err(Refusal::FieldWrong);
     }
     let mut bytes = [0u8; 114];
     let a = put_type(&mut bytes, 70);
     let b = put_word(&mut bytes, a, b"11=", id);
     let c = put_word(&mut bytes, b, b"41=", orig);
     let d = put_time(&mut bytes, c, sixty);
-    closed(bytes, d)
+    Ok(closed(bytes, d))
 }
 
 // G
@@ -235,11 +219,11 @@ pub fn write_replace(
     volume: Contracts,
     price: Steps,
     sixty: &[u8],
-) -> MessageText
+) -> Result<MessageText, Refusal>
     ensures { Writes (replace_order id orig side volume price sixty.now) result }
 {
     if !time_good(sixty) {
-        return refused();
+        return Err(Refusal::FieldWrong);
     }
     let mut bytes = [0u8; 114];
     let a = put_type(&mut bytes, 71);
@@ -247,5 +231,5 @@ pub fn write_replace(
     let c = put_word(&mut bytes, b, b"41=", orig);
     let d = put_terms(&mut bytes, c, side, volume, price);
     let e = put_time(&mut bytes, d, sixty);
-    closed(bytes, e)
+    Ok(closed(bytes, e))
 }

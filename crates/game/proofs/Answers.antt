@@ -5,8 +5,8 @@ use mathlib.Core.Bool.{true, false, ◌||◌}
 use Rattle.rules.specs.Answers.{Outcome, accepted, refused}
 use Rattle.rules.specs.Causes.{first_number}
 use Rattle.rules.proofs.Answers.{not_refused}
-use Rattle.game.specs.declared.SafeAnswer.{SafeAnswer}
-use Rattle.game.specs.declared.SafeAnswer.TheVariants.{Safe, AboveSixty}
+use Rattle.std.specs.Prelude.{Result, Ok, Err}
+use Rattle.game.specs.declared.AboveSixty.{AboveSixty}
 use Rattle.game.specs.Value.{value}
 use Rattle.game.specs.Answers.{is_above, safe_minutes, shown_safe}
 
@@ -22,8 +22,8 @@ module _ (m h k : ℕ) where
 same_minutes : (a b : ℕ) → ◌≡◌ {A = Outcome ℕ} (accepted a) (accepted b) → a ≡ b
 same_minutes a b e = cc
 
-pub safe_shown : (a b : SafeAnswer) → shown_safe a ≡ shown_safe b → a ≡ b
-safe_shown (Safe g) (Safe f) e = ap Safe (same_minutes g f e)
-safe_shown (Safe g) AboveSixty e = absurd (not_refused _ _ e)
-safe_shown AboveSixty (Safe f) e = absurd (not_refused _ _ (sym e))
-safe_shown AboveSixty AboveSixty e = refl
+pub safe_shown : (a b : Result ℕ AboveSixty) → shown_safe a ≡ shown_safe b → a ≡ b
+safe_shown (Ok g) (Ok f) e = ap Ok (same_minutes g f e)
+safe_shown (Ok g) (Err s) e = absurd (not_refused _ _ e)
+safe_shown (Err r) (Ok f) e = absurd (not_refused _ _ (sym e))
+safe_shown (Err r) (Err s) e = refl

@@ -5,62 +5,46 @@
 // every single minute that he can, and a double one only if he keeps a knock for each minute that must still be single.
 #![tactic(auto)]
 
-ghost use Rattle.std.specs.Prelude.{◌≡◌, ◌||◌, ◌-◌};
+ghost use Rattle.std.specs.Prelude.{◌≡◌, ◌||◌};
 ghost use Rattle.game.specs.Value.{value};
 ghost use Rattle.game.specs.Answers.{is_above, safe_minutes, shown_safe};
 
-use numbers::min;
+// A number above 60.
+#[derive(Clone, Copy, Debug, PartialEq, Eq)]
+pub struct AboveSixty;
 
-// The minutes that are safe, or refusal 26: a number above 60.
-#[derive(Clone, Copy)]
-pub enum SafeAnswer {
-    Safe(u32),
-    AboveSixty,
-}
-
-// Tests are joined by calls, so that no branches meet.
-fn either(a: bool, b: bool) -> bool
-    ensures { result ≡ a || b }
-{
-    if a { true } else { b }
-}
-
-fn is_above(n: u32) -> bool
-    ensures { result ≡ is_above n }
-{
-    60 < n
+impl AboveSixty {
+    // The refusal's number in document 02.
+    pub fn number(self) -> u32
+        ensures { result ≡ 26 }
+    {
+        26
+    }
 }
 
 fn any_above(m: u32, h: u32, k: u32) -> bool
     ensures { result ≡ is_above m || is_above h || is_above k }
 {
-    either(either(is_above(m), is_above(h)), is_above(k))
-}
-
-// 0 where the difference would be negative.
-fn less(a: u32, b: u32) -> u32
-    ensures { result ≡ a - b }
-{
-    if a < b { 0 } else { a - b }
+    60 < m || 60 < h || 60 < k
 }
 
 // G by its closed form: the taker voids singles first, then doubles.
 fn forced(m: u32, h: u32, k: u32) -> u32
     ensures { result ≡ value m h k }
 {
-    let d = min(h, m);
+    let d = h.min(m);
     let s = m - d;
-    let v = min(k, s);
+    let v = k.min(s);
     let q = (k - v) / 2;
-    less(m - v, q)
+    (m - v).saturating_sub(q)
 }
 
 // G of m minutes, h doubles and k knocks, or refusal 26.
-pub fn safe_minutes(m: u32, h: u32, k: u32) -> SafeAnswer
+pub fn safe_minutes(m: u32, h: u32, k: u32) -> Result<u32, AboveSixty>
     ensures { shown_safe result ≡ safe_minutes m h k }
 {
     if any_above(m, h, k) {
-        return SafeAnswer::AboveSixty;
+        return Err(AboveSixty);
     }
-    SafeAnswer::Safe(forced(m, h, k))
+    Ok(forced(m, h, k))
 }

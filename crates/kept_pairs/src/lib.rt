@@ -4,7 +4,10 @@
 
 ghost use Rattle.std.specs.Prelude.{◌≡◌, ◌≤◌};
 ghost use Rattle.kept_pairs.specs.Internal.{put_pair, begun_at, MarksBounds, MarksAfter};
+ghost use Rattle.kept_pairs.specs.Gathered.{keeps_after, gathered_pairs, onward_pairs};
 
+use clock::{Clock, Duty};
+use record_runs::Gather;
 use rules::Millis;
 
 // The pairs so far: how many, and where the last one starts. The clock says whether it reaches the present.
@@ -63,4 +66,26 @@ pub fn grow(
         return next;
     }
     marks
+}
+
+impl Gather for Marks {
+    type State = bool;
+
+    ghost state_of = { keeps_after };
+
+    ghost gathered = { gathered_pairs };
+
+    ghost onward = { onward_pairs };
+
+    fn begin() -> Marks {
+        Marks { pairs: 0, start: 0 }
+    }
+
+    fn state(_duty: Duty, clock: Clock, _table: &[u32]) -> bool {
+        clock.keeps == 1
+    }
+
+    fn grow(self, clock: Clock, state: bool, to: Millis, buffer: &mut [u32]) -> Marks {
+        grow(self, clock.time, to, state, clock.last == 1, buffer)
+    }
 }

@@ -6,6 +6,7 @@ use mathlib.Core.Path.{◌≡◌, refl, sym, ap, ◌∙◌}
 use mathlib.Core.Bool.{Bool, true, false}
 use mathlib.Core.List.{List, [], ◌∷◌, ◌++◌, append_assoc, append-nil}
 use lib.Dec.{eqb}
+use mir.Val.{bool_byte as from_bool}
 use lib.ListN.{length, get_or, take, drop, set, length-append, length-drop, drop_of_length-le}
 use lib.Seq.{take-suc, take-suc-set, take_at, take_all, length-take-le, drop-drop, drop-append-add}
 use Rattle.rules.specs.declared.Cell.{Cell}
@@ -13,6 +14,11 @@ use Rattle.rules.specs.Units.{millis, kopecks}
 use Rattle.rules.specs.Cells.{blank_cell}
 use Rattle.lent.specs.Words.{flag_word, low, high, cell_words, cells_words}
 use Rattle.lent.proofs.Parts.{next-part}
+
+-- a flag's word is the flag cast to a number
+pub flag_is : (b : Bool) → from_bool b ≡ flag_word b
+flag_is true = refl
+flag_is false = refl
 
 pub flag_back : (b : Bool) → eqb (flag_word b) 1 ≡ b
 flag_back true = refl

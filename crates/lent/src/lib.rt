@@ -1,5 +1,4 @@
-// Values in words that a caller lends: a truth value, a number of 64 bits in two words, a cell in ten, the month's 186 cells one after the
-// other; and words copied. Each is written at fixed places and read back.
+// Values in words that a caller lends: a number of 64 bits in two words, a cell in ten, the month's 186 cells one after the other. Each is written at fixed places and read back.
 #![tactic(auto)]
 
 ghost use Rattle.std.specs.Prelude.{◌≡◌, List, ◌+◌, ◌*◌, eqb, length};
@@ -7,21 +6,6 @@ ghost use Rattle.rules.specs.declared.Cell.{Cell};
 ghost use Rattle.lent.specs.Words.{flag_word, low as low_of, high as high_of, cell_words, cells_words};
 
 use rules::{Cell, Kopecks, Millis};
-
-pub fn flag(b: bool) -> u32
-    ensures { result ≡ flag_word b }
-{
-    if b {
-        return 1;
-    }
-    0
-}
-
-pub fn is_set(word: u32) -> bool
-    ensures { result ≡ eqb word 1 }
-{
-    word == 1
-}
 
 // A number of 64 bits as two words, and back.
 pub fn low(n: u64) -> u32
@@ -39,7 +23,22 @@ pub fn high(n: u64) -> u32
 pub fn wide(low: u32, high: u32) -> u64
     ensures { result ≡ low + 4294967296 * high }
 {
-    numbers::wide(low) + 4294967296 * numbers::wide(high)
+    u64::from(low) + 4294967296 * u64::from(high)
+}
+
+// ---- std has these: they go as soon as the crates that still call them say it by `u32::from`, `== 1` and `copy_from_slice`
+
+#[tactic(auto, using(crate::proofs::Back::flag_is))]
+pub fn flag(b: bool) -> u32
+    ensures { result ≡ flag_word b }
+{
+    u32::from(b)
+}
+
+pub fn is_set(word: u32) -> bool
+    ensures { result ≡ eqb word 1 }
+{
+    word == 1
 }
 
 // The words of one slice into another of the same length.
@@ -47,11 +46,7 @@ pub fn copy(from: &[u32], to: &mut [u32])
     requires { length to.old ≡ length from.now }
     ensures { to.new ≡ from.now }
 {
-    let mut i = 0;
-    while i < from.len() {
-        to[i] = from[i];
-        i += 1;
-    }
+    to.copy_from_slice(from);
 }
 
 // ---- cells
@@ -65,7 +60,7 @@ pub fn put_cell(cell: Cell, words: &mut [u32])
     let active = cell.active;
     let passive = cell.passive;
     let ten = [
-        flag(cell.filled),
+        u32::from(cell.filled),
         kept.0,
         length.0,
         cell.share,
@@ -76,7 +71,7 @@ pub fn put_cell(cell: Cell, words: &mut [u32])
         low(passive.0),
         high(passive.0),
     ];
-    copy(&ten, words);
+    words.copy_from_slice(&ten);
 }
 
 pub fn cell_in(words: &[u32]) -> Cell
@@ -88,7 +83,7 @@ pub fn cell_in(words: &[u32]) -> Cell
     let active = Kopecks(wide(words[6], words[7]));
     let passive = Kopecks(wide(words[8], words[9]));
     Cell {
-        filled: is_set(words[0]),
+        filled: words[0] == 1,
         kept,
         length,
         share: words[3],
@@ -103,13 +98,9 @@ pub fn put_cells(cells: [Cell; 186], words: &mut [u32])
     requires { length words.old ≡ 1860 }
     ensures { words.new ≡ cells_words cells }
 {
-    let mut i: usize = 0;
-    while i < 186 {
-        let cell = cells[i];
-        let from = 10 * i;
-        let to = from + 10;
-        put_cell(cell, &mut words[from..to]);
-        i += 1;
+    for i in 0..186 {
+        let at = 10 * i;
+        put_cell(cells[i], &mut words[at..at + 10]);
     }
 }
 
@@ -119,13 +110,9 @@ pub fn cells_in(words: &[u32]) -> [Cell; 186]
 {
     let first = cell_in(&words[0..10]);
     let mut cells = [first; 186];
-    let mut i: usize = 0;
-    while i < 186 {
-        let from = 10 * i;
-        let to = from + 10;
-        let cell = cell_in(&words[from..to]);
-        cells[i] = cell;
-        i += 1;
+    for i in 0..186 {
+        let at = 10 * i;
+        cells[i] = cell_in(&words[at..at + 10]);
     }
     cells
 }

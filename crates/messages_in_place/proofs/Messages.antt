@@ -27,9 +27,9 @@ use Rattle.rules.specs.Causes.{other_side_in, refusal_of}
 use Rattle.rules.specs.Book.{answer_of, step, after}
 use Rattle.rules.proofs.Bounds.{bounds, after-snoc}
 use Rattle.rules.proofs.MessageCalls.{unread, wrong_side, none_open, early, past, one-step, one_answer, first_refused, second-refusal, both-step}
-use Rattle.fix_dates.specs.declared.Elapsed.{Elapsed}
-use Rattle.fix_dates.specs.declared.Elapsed.TheVariants as E
-use Rattle.fix_dates.specs.Answers.{shown_elapsed}
+use Rattle.fix_dates.specs.declared.Moment as F
+use Rattle.fix_dates.specs.declared.Moment.TheVariants as E
+use Rattle.fix_dates.specs.Answers.{timely}
 use Rattle.fix_events.specs.Internal.{at_time}
 use Rattle.fix_events.proofs.Messages.{side_is}
 use Rattle.quantum.specs.Words.{quantum_words}
@@ -188,12 +188,11 @@ side_of_lem ws side id r found new volume price t calls is =
     side_is m.quantum m.running side id r (λ row sp es g e. found row sp es g (quantum_in_lem ws m (month-fits calls) is ∙ ap quantum_words e)) new volume price t
     (after paper calls) (in_book m (after paper calls) (bounds paper calls) refl)
 
-pub said_side : (ws : List ℕ) (say : Moment → M.Message Moment) (when : Elapsed)
-    → ((t : Moment) (calls : List Call) → take 2464 ws ≡ words_after calls → other_side_in (after paper calls).running (say t) ≡ true) → MessageChanges ws say (shown_elapsed when) ws 21
+pub said_side : (ws : List ℕ) (say : Moment → M.Message Moment) (when : F.Moment)
+    → ((t : Moment) (calls : List Call) → take 2464 ws ≡ words_after calls → other_side_in (after paper calls).running (say t) ≡ true) → MessageChanges ws say (timely when) ws 21
 said_side ws say (E.At t) s start bytes h = message_side ws start bytes (say (at t.0)) h (s (at t.0))
 said_side ws say E.Before s start bytes h = message_side ws start bytes (say before) h (s before)
 said_side ws say E.Late s start bytes h = message_side ws start bytes (say late) h (s late)
-said_side ws say E.Unreadable s start bytes h = message_unread ws start bytes 21 (omega arith) h
 
 pub said-both : (ws : List ℕ) (orig : ℕ) (o : Order) (when : Outcome Moment) (t : Millis) (words' : List ℕ) (n : ℕ) → when ≡ accepted (at t.0)
     → ((t : Moment) (calls : List Call) → take 2464 ws ≡ words_after calls → other_side_in (after paper calls).running (replaced_at o orig t) ≡ false)

@@ -76,6 +76,10 @@ abbrev pub MessageChanges : List ℕ → (Moment → Message Moment) → Outcome
 MessageChanges words say when words' n =
     (start bytes : List ℕ) → message_in start bytes ≡ at_time say when → ChangesMonth words (B.Message start bytes) words' n
 
+-- what every message that, with its start, is this one promises
+abbrev pub TimedChanges : List ℕ → Message Moment → List ℕ → ℕ → Type 0
+TimedChanges words m words' n = (start bytes : List ℕ) → message_in start bytes ≡ accepted m → ChangesMonth words (B.Message start bytes) words' n
+
 -- and what a G whose side is right promises, at a time that is one
 abbrev pub BothOrNeither : List ℕ → Millis → ℕ → Order → List ℕ → ℕ → Type 0
 BothOrNeither words t orig o words' n =

@@ -13,14 +13,15 @@ ghost use Rattle.rules.specs.Quotes.{same};
 ghost use Rattle.rules.specs.Messages.{cancel_order};
 ghost use Rattle.rules.specs.Calls as B;
 ghost use Rattle.rules.specs.Calls.{amend_of};
-ghost use Rattle.fix_dates.specs.Answers.{shown_elapsed};
+ghost use Rattle.fix_dates.specs.Answers.{timely};
+ghost use Rattle.fix_reader.specs.Answers.{timed_shown};
 ghost use Rattle.quantum_in_place.specs.Events.{HoldsQuantum};
 ghost use Rattle.month.specs.Words.{HoldsMonth};
 ghost use Rattle.month_in_place.specs.Events.{ChangesMonth};
-ghost use Rattle.messages_in_place.specs.Internal.{first_of_two, number_where, none_open_or, OfEvents, untimely as untimely_by, Refuses, RefusesThen, add_of, new_at, replaced_at, MessageChanges, BothOrNeither};
+ghost use Rattle.messages_in_place.specs.Internal.{first_of_two, number_where, none_open_or, OfEvents, untimely as untimely_by, Refuses, RefusesThen, add_of, new_at, replaced_at, MessageChanges, TimedChanges, BothOrNeither};
 
-use fix_dates::{Elapsed, after};
-use fix_reader::MessageRead;
+use fix_dates::Moment;
+use fix_reader::{Message, Timed};
 use month::{CELLS_AT, QUANTUM_AT};
 use numbers::both;
 use quantum::{NOTES_AT, TABLE_AT};
@@ -43,7 +44,7 @@ fn number_where(applies: bool, refusal: Refusal) -> u32
     ensures { result ≡ number_where applies refusal }
 {
     if applies {
-        return rules::number(refusal);
+        return u32::from(refusal);
     }
     0
 }
@@ -53,9 +54,9 @@ fn none_open_or(flag: u32, refusal: Refusal) -> u32
     ensures { result ≡ none_open_or flag (number_of refusal) }
 {
     if flag == 0 {
-        return rules::number(Refusal::NoQuantumOpen);
+        return u32::from(Refusal::NoQuantumOpen);
     }
-    rules::number(refusal)
+    u32::from(refusal)
 }
 
 fn below(a: u32, b: u32) -> bool
@@ -190,34 +191,32 @@ fn add_of(t: Millis, order: Order) -> Event
 }
 
 // D: an order more.
-fn new_order(words: &mut [u32], hints: &mut [u8], when: Elapsed, order: Order) -> u32
+fn new_order(words: &mut [u32], hints: &mut [u8], when: Moment, order: Order) -> u32
     requires { HoldsMonth words.old × (2464 ≤ length words.old) × (length hints.old ≡ 2048) }
-    ensures { MessageChanges words.old (new_at order) (shown_elapsed when) words.new result × (0 < result → hints.new ≡ hints.old) }
+    ensures { MessageChanges words.old (new_at order) (timely when) words.new result × (0 < result → hints.new ≡ hints.old) }
 {
     match when {
-        Elapsed::At(t) => {
+        Moment::At(t) => {
             month_in_place::send(words, hints, record::event_fields(add_of(t, order)))
         }
-        Elapsed::Before => none_open_or(words[0], Refusal::TimeBackwards),
-        Elapsed::Late => none_open_or(words[0], Refusal::TimePastEnd),
-        Elapsed::Unreadable => rules::number(Refusal::FieldWrong),
+        Moment::Before => none_open_or(words[0], Refusal::TimeBackwards),
+        Moment::Late => none_open_or(words[0], Refusal::TimePastEnd),
     }
 }
 
 // F: the order that 41 names goes.
-fn cancel_order(words: &mut [u32], hints: &mut [u8], when: Elapsed, id: u32, orig: u32) -> u32
+fn cancel_order(words: &mut [u32], hints: &mut [u8], when: Moment, id: u32, orig: u32) -> u32
     requires { HoldsMonth words.old × (2464 ≤ length words.old) × (length hints.old ≡ 2048) }
-    ensures { MessageChanges words.old (λ t. cancel_order id orig t) (shown_elapsed when) words.new result × (0 < result → hints.new ≡ hints.old) }
+    ensures { MessageChanges words.old (λ t. cancel_order id orig t) (timely when) words.new result × (0 < result → hints.new ≡ hints.old) }
 {
     match when {
-        Elapsed::At(t) => month_in_place::send(
+        Moment::At(t) => month_in_place::send(
             words,
             hints,
             record::event_fields(Event::Cancel { t, id: orig }),
         ),
-        Elapsed::Before => none_open_or(words[0], Refusal::TimeBackwards),
-        Elapsed::Late => none_open_or(words[0], Refusal::TimePastEnd),
-        Elapsed::Unreadable => rules::number(Refusal::FieldWrong),
+        Moment::Before => none_open_or(words[0], Refusal::TimeBackwards),
+        Moment::Late => none_open_or(words[0], Refusal::TimePastEnd),
     }
 }
 
@@ -227,7 +226,7 @@ fn both_or_neither(words: &mut [u32], hints: &mut [u8], t: Millis, orig: u32, or
     ensures { BothOrNeither words.old t orig order words.new result × (0 < result → hints.new ≡ hints.old) }
 {
     if words[0] == 0 {
-        return rules::number(Refusal::NoQuantumOpen);
+        return u32::from(Refusal::NoQuantumOpen);
     }
     let second = refuses_add(&words[QUANTUM_AT..CELLS_AT], t, orig, order);
     if 0 < second {
@@ -248,19 +247,44 @@ fn both_or_neither(words: &mut [u32], hints: &mut [u8], t: Millis, orig: u32, or
 }
 
 // G: that cancel and an add. Its side is that of the order that 41 names, where there is one.
-fn replace_order(words: &mut [u32], hints: &mut [u8], when: Elapsed, orig: u32, order: Order) -> u32
+fn replace_order(words: &mut [u32], hints: &mut [u8], when: Moment, orig: u32, order: Order) -> u32
     requires { HoldsMonth words.old × (2464 ≤ length words.old) × (length hints.old ≡ 2048) }
-    ensures { MessageChanges words.old (replaced_at order orig) (shown_elapsed when) words.new result × (0 < result → hints.new ≡ hints.old) }
+    ensures { MessageChanges words.old (replaced_at order orig) (timely when) words.new result × (0 < result → hints.new ≡ hints.old) }
 {
     let side = order.side;
     if other_side(&words[QUANTUM_AT..CELLS_AT], side, orig) {
-        return rules::number(Refusal::FieldWrong);
+        return u32::from(Refusal::FieldWrong);
     }
     match when {
-        Elapsed::At(t) => both_or_neither(words, hints, t, orig, order),
-        Elapsed::Before => none_open_or(words[0], Refusal::TimeBackwards),
-        Elapsed::Late => none_open_or(words[0], Refusal::TimePastEnd),
-        Elapsed::Unreadable => rules::number(Refusal::FieldWrong),
+        Moment::At(t) => both_or_neither(words, hints, t, orig, order),
+        Moment::Before => none_open_or(words[0], Refusal::TimeBackwards),
+        Moment::Late => none_open_or(words[0], Refusal::TimePastEnd),
+    }
+}
+
+// A message that was read, at its time: its one or two events.
+fn taken(words: &mut [u32], hints: &mut [u8], timed: Timed) -> u32
+    requires { HoldsMonth words.old × (2464 ≤ length words.old) × (length hints.old ≡ 2048) }
+    ensures { TimedChanges words.old (timed_shown timed) words.new result × (0 < result → hints.new ≡ hints.old) }
+{
+    let when = timed.when;
+    match timed.message {
+        Message::New {
+            id,
+            side,
+            volume,
+            price,
+            ..
+        } => new_order(words, hints, when, order_of(id, side, volume, price)),
+        Message::Cancel { id, orig, .. } => cancel_order(words, hints, when, id, orig),
+        Message::Replace {
+            id,
+            orig,
+            side,
+            volume,
+            price,
+            ..
+        } => replace_order(words, hints, when, orig, order_of(id, side, volume, price)),
     }
 }
 
@@ -269,38 +293,9 @@ pub fn message(words: &mut [u32], hints: &mut [u8], start: &[u8], message: &[u8]
     requires { HoldsMonth words.old × (2464 ≤ length words.old) × (length hints.old ≡ 2048) }
     ensures { ChangesMonth words.old (B.Message start.now message.now) words.new result × (0 < result → hints.new ≡ hints.old) }
 {
-    match fix_reader::read(message) {
-        MessageRead::New {
-            id,
-            side,
-            volume,
-            price,
-            time,
-        } => new_order(
-            words,
-            hints,
-            after(start, time),
-            order_of(id, side, volume, price),
-        ),
-        MessageRead::Cancel { id, orig, time } => {
-            cancel_order(words, hints, after(start, time), id, orig)
-        }
-        MessageRead::Replace {
-            id,
-            orig,
-            side,
-            volume,
-            price,
-            time,
-        } => replace_order(
-            words,
-            hints,
-            after(start, time),
-            orig,
-            order_of(id, side, volume, price),
-        ),
-        MessageRead::FrameWrong => rules::number(Refusal::FrameWrong),
-        MessageRead::FieldWrong => rules::number(Refusal::FieldWrong),
+    match fix_reader::read_from(start, message) {
+        Ok(timed) => taken(words, hints, timed),
+        Err(refusal) => u32::from(refusal),
     }
 }
 
@@ -328,7 +323,7 @@ pub fn commit(words: &mut [u32], hints: &mut [u8], a: Amendment, ticket: Ticket)
     ensures { ChangesMonth words.old (B.Commit a ticket) words.new result × (0 < result → hints.new ≡ hints.old) }
 {
     if words[0] == 0 {
-        return rules::number(Refusal::NoQuantumOpen);
+        return u32::from(Refusal::NoQuantumOpen);
     }
     let count = lent::wide(words[4], words[5]);
     if ticket::is_present(ticket, a, count) {
@@ -336,6 +331,6 @@ pub fn commit(words: &mut [u32], hints: &mut [u8], a: Amendment, ticket: Ticket)
     }
     first_of(
         refuses_amendment(&words[QUANTUM_AT..CELLS_AT], a),
-        rules::number(Refusal::WrongTicket),
+        u32::from(Refusal::WrongTicket),
     )
 }

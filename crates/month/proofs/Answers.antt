@@ -1,8 +1,9 @@
 -- From one book to every list of calls: what a call shows of each book that the month represents, it promises of each list.
+use Rattle.std.proofs.Common.{Result}
 use Prim.Native.Nat.{ℕ, suc}
 use mathlib.Core.Path.{◌≡◌, ap, sym, ◌∙◌, subst₂}
 use mathlib.Core.List.{List}
-use Rattle.rules.specs.declared.Answer.{Answer}
+use Rattle.rules.specs.declared.Refusal.{Refusal}
 use Rattle.rules.specs.Terms.{paper}
 use Rattle.rules.specs.Answers.{Outcome, accepted, refused, outcome_by, Reply, done, shown_answer}
 use Rattle.rules.specs.Calls.{Call, Book}
@@ -15,7 +16,7 @@ use Rattle.rules.proofs.Answers.{refused_by}
 use Rattle.rules.proofs.Refusals.{step-accepted, step_refused, answer-accepted, answer_refused}
 use Rattle.rules.proofs.Bounds.{bounds, after-snoc}
 use Rattle.month.specs.declared.Month.{Month}
-use Rattle.month.specs.declared.AfterCall.{AfterCall}
+use Rattle.month.specs.declared.After.{After}
 use Rattle.month.specs.Represents.{month_of, Answered}
 
 -- of each list of calls by itself
@@ -62,6 +63,6 @@ went m next c reply h =
     (e ∙ ap month_of (sym (step-accepted paper b c n)), ap accepted r ∙ sym (answer-accepted paper b c n)))
 
 -- what the ends `refused` and `accepted` hand on
-pub handed : (m : Month) (c : Call) (r : AfterCall) (next : Month) (a : Answer) → (r.month ≡ next) × (r.answer ≡ a)
+pub handed : (m : Month) (c : Call) (r : After (Result (Unit {0}) Refusal)) (next : Month) (a : Result (Unit {0}) Refusal) → (r.month ≡ next) × (r.answer ≡ a)
     → Answered m c next (shown_answer a) → Answered m c r.month (shown_answer r.answer)
-handed m c r next a e h = subst₂ (λ (x : Month) (y : Answer). Answered m c x (shown_answer y)) (sym e.0) (sym e.1) h
+handed m c r next a e h = subst₂ (λ (x : Month) (y : Result (Unit {0}) Refusal). Answered m c x (shown_answer y)) (sym e.0) (sym e.1) h

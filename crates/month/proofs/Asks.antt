@@ -1,4 +1,5 @@
 -- Asks and commits: they are checked as the amend that they name, then by the ticket.
+use Rattle.std.proofs.Common.{Err, Ok, Result}
 use Prim.Native.Nat.{ℕ, suc}
 use mathlib.Core.Path.{◌≡◌, ap, sym, ◌∙◌, subst₂}
 use mathlib.Core.Bool.{Bool, true, false, not}
@@ -6,10 +7,7 @@ use mathlib.Core.List.{List, [], ◌∷◌, ◌++◌}
 use Rattle.rules.specs.declared.Amendment.{Amendment}
 use Rattle.rules.specs.declared.Ticket.{Ticket}
 use Rattle.rules.specs.declared.Preview.{Preview}
-use Rattle.rules.specs.declared.Asked.{Asked}
 use Rattle.rules.specs.declared.Refusal.{Refusal}
-use Rattle.rules.specs.declared.Answer.{Answer}
-use Rattle.rules.specs.declared.Answer.TheVariants.{Accepted, Refused}
 use Rattle.rules.specs.Terms.{paper}
 use Rattle.rules.specs.Answers.{accepted, refused, outcome_by, done, asked, number_of, shown_answer, shown_asked}
 use Rattle.rules.specs.Calls.{Call, Send, Ask, Commit, Running, Book, amend_of}
@@ -26,7 +24,7 @@ use Rattle.quantum.specs.Represents as S
 use Rattle.quantum.specs.Represents.{quantum_of}
 use Rattle.events.specs.Represents.{taken}
 use Rattle.month.specs.declared.Month.{Month}
-use Rattle.month.specs.declared.AskedAbout.{AskedAbout}
+use Rattle.month.specs.declared.After.{After}
 use Rattle.month.specs.Represents.{month_of, Reached, Answered}
 use Rattle.month.specs.Internal.{Previewed}
 use Rattle.month.proofs.Answers.{answered_after, stopped, stopped_by, went}
@@ -46,7 +44,7 @@ module _ (m : Month) (a : Amendment) where
   ask_refusal b = λ i. refusal_of paper b (Send (amend_of a))
 
   module _ (sent : Sent) (h : m.running ≡ true) (s : S.Answered m.quantum (amend_of a) sent) where
-    pub ask_refused : (f : Refusal) → sent.answer ≡ Refused f → Answered m (Ask a) m (refused (number_of f))
+    pub ask_refused : (f : Refusal) → sent.answer ≡ Err f → Answered m (Ask a) m (refused (number_of f))
     ask_refused f k =
         stopped_by m (Ask a) (number_of f)
         (λ b g is.
@@ -55,7 +53,7 @@ module _ (m : Month) (a : Amendment) where
         ∙ s.answer o.row o.opening.spread o.events o.bounds.events_good o.quantum
         ∙ ap (λ (n : ℕ). outcome_by n done) (sym (ask_refusal b ∙ send_refusal m b (amend_of a) o)))
 
-    module _ (k : sent.answer ≡ Accepted) where
+    module _ (k : sent.answer ≡ (Ok tt)) where
       passes : (b : Book) (o : Opened m b) → event_refusal o.row o.events (amend_of a) ≡ 0
       passes b o =
           (accepted_by _ done done (ap shown_answer (sym k) ∙ s.answer o.row o.opening.spread o.events o.bounds.events_good o.quantum)).0
@@ -102,10 +100,10 @@ module _ (m : Month) (a : Amendment) where
           ))
 
 -- what the end `asked` hands on
-pub ask_handed : (m : Month) (c : Call) (r : AskedAbout) (a : Asked) → (r.month ≡ m) × (r.answer ≡ a) → Answered m c m (shown_asked a)
+pub ask_handed : (m : Month) (c : Call) (r : After (Result Preview Refusal)) (a : Result Preview Refusal) → (r.month ≡ m) × (r.answer ≡ a) → Answered m c m (shown_asked a)
     → (r.month ≡ m) × Answered m c r.month (shown_asked r.answer)
 ask_handed m c r a e h =
-    (e.0, subst₂ (λ (x : Month) (y : Asked). Answered m c x (shown_asked y)) (sym e.0) (sym e.1) h)
+    (e.0, subst₂ (λ (x : Month) (y : Result Preview Refusal). Answered m c x (shown_asked y)) (sym e.0) (sym e.1) h)
 
 -- ---- commit
 
@@ -131,9 +129,9 @@ module _ (a : Amendment) (ticket : Ticket) (b : Book) where
     unfolding changed
     commit_step t = step-accepted paper b (Send (amend_of a)) h ∙ sym (step-accepted paper b (Commit a ticket) (commit_passes t))
 
-module _ (m : Month) (a : Amendment) (ticket : Ticket) (next : Month) (answer : Answer)
+module _ (m : Month) (a : Amendment) (ticket : Ticket) (next : Month) (answer : Result (Unit {0}) Refusal)
     (amended : Answered m (Send (amend_of a)) next (shown_answer answer)) where
-  pub commit_refused : (f : Refusal) → answer ≡ Refused f → Answered m (Commit a ticket) m (refused (number_of f))
+  pub commit_refused : (f : Refusal) → answer ≡ Err f → Answered m (Commit a ticket) m (refused (number_of f))
   unfolding answer_of
   commit_refused f k =
       answered_after m m (Commit a ticket) (refused (number_of f))
@@ -143,7 +141,7 @@ module _ (m : Month) (a : Amendment) (ticket : Ticket) (next : Month) (answer : 
       let r = commit_stops a ticket b j n in
       (is ∙ ap month_of (sym (step_refused paper b (Commit a ticket) j r)), ap refused e ∙ sym (answer_refused paper b (Commit a ticket) j r)))
 
-  module _ (k : answer ≡ Accepted) where
+  module _ (k : answer ≡ (Ok tt)) where
     passed_amend : (calls : List Call) → m ≡ month_of (after paper calls) → refusal_of paper (after paper calls) (Send (amend_of a)) ≡ 0
     unfolding answer_of
     passed_amend calls is =

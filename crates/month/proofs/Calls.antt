@@ -1,4 +1,5 @@
 -- Each call of the month, refusal by refusal and accepted, over the month's fields.
+use Rattle.std.proofs.Common.{Err, Ok, Option}
 use Prim.Native.Nat.{ℕ, zero}
 use mathlib.Core.Path.{◌≡◌, refl, ap, sym, ◌∙◌, subst}
 use mathlib.Core.Bool.{Bool, true, false, not, ◌&&◌}
@@ -7,6 +8,7 @@ use native.Mathlib.Omega.{arith}
 use borrow.Author.Tests.{eq-eqb, eqb-true, not-false}
 use lib.IntN.{pos}
 use lib.ListN.{length, set}
+use Rattle.rules.specs.declared.Steps.{Steps}
 use Rattle.rules.specs.declared.Millis.{Millis}
 use Rattle.rules.specs.declared.SpreadRule.{SpreadRule}
 use Rattle.rules.specs.declared.SpreadRule.TheVariants.{Settled}
@@ -16,9 +18,7 @@ use Rattle.rules.specs.declared.Row.{Row}
 use Rattle.rules.specs.declared.Cell.{Cell}
 use Rattle.rules.specs.declared.CellView.{CellView}
 use Rattle.rules.specs.declared.Event.{Event}
-use Rattle.rules.specs.declared.Answer.TheVariants.{Accepted, Refused}
 use Rattle.rules.specs.declared.Refusal.{Refusal}
-use Rattle.rules.specs.declared.Quote.{Quote}
 use Rattle.rules.specs.declared.Outlook.{Outlook}
 use Rattle.lists.specs.Lists.{within, filter, count_below}
 use Rattle.rules.specs.Terms.{paper}
@@ -179,7 +179,7 @@ unfolding refusal_of causes event_refusal
 send_refusal m b e o = ap (λ (r : Running). first_number (send_causes r e)) o.running
 
 module _ (m : Month) (e : Event) (sent : Sent) (h : m.running ≡ true) (a : S.Answered m.quantum e sent) where
-  pub send_refused : (f : Refusal) → sent.answer ≡ Refused f → Answered m (Send e) m (refused (number_of f))
+  pub send_refused : (f : Refusal) → sent.answer ≡ Err f → Answered m (Send e) m (refused (number_of f))
   send_refused f k =
       stopped_by m (Send e) (number_of f)
       (λ b g is.
@@ -188,7 +188,7 @@ module _ (m : Month) (e : Event) (sent : Sent) (h : m.running ≡ true) (a : S.A
       ∙ a.answer o.row o.opening.spread o.events o.bounds.events_good o.quantum
       ∙ ap (λ (n : ℕ). outcome_by n done) (sym (send_refusal m b e o)))
 
-  pub send_done : sent.answer ≡ Accepted
+  pub send_done : sent.answer ≡ (Ok tt)
       → Answered m (Send e) (counted (record { running = m.running; place = m.place; share = m.share; allowed = m.allowed; count = m.count; quantum = sent.quantum; cells = m.cells }))
       (accepted done)
   unfolding changed month_of
@@ -352,7 +352,7 @@ module _ (m : Month) (day expiry quantum : ℕ) where
 -- ---- report
 
 -- what is read off a quantum
-pub record ReadOff (q : Quantum) (time kept : Millis) (lapses orders : ℕ) (bid ask : Quote) : Type 0 where
+pub record ReadOff (q : Quantum) (time kept : Millis) (lapses orders : ℕ) (bid ask : Option Steps) : Type 0 where
   pub time_is : time ≡ q.clock.time
   pub kept_is : kept ≡ q.clock.kept
   pub lapses_are : lapses ≡ q.clock.lapses
@@ -361,7 +361,7 @@ pub record ReadOff (q : Quantum) (time kept : Millis) (lapses orders : ℕ) (bid
   pub ask_is : (row : Row) (sp : SpreadRule) (events : List Event) → EventBounds row events → q ≡ quantum_of row sp events → ask ≡ best_ask row (live events)
 
 -- it is what the book's report says, also where none is open
-record Shows (r : Running) (time kept : Millis) (lapses orders : ℕ) (bid ask : Quote) : Type 0 where
+record Shows (r : Running) (time kept : Millis) (lapses orders : ℕ) (bid ask : Option Steps) : Type 0 where
   time_shown : time ≡ millis (time_in r)
   kept_shown : kept ≡ millis (kept_in r)
   lapses_shown : lapses ≡ lapses_in r
@@ -369,7 +369,7 @@ record Shows (r : Running) (time kept : Millis) (lapses orders : ℕ) (bid ask :
   bid_shown : bid ≡ bid_in r
   ask_shown : ask ≡ ask_in r
 
-shows : (r : Running) (q : Quantum) (time kept : Millis) (lapses orders : ℕ) (bid ask : Quote) → RunningBounds paper r → q ≡ quantum_in r
+shows : (r : Running) (q : Quantum) (time kept : Millis) (lapses orders : ℕ) (bid ask : Option Steps) → RunningBounds paper r → q ≡ quantum_in r
     → ReadOff q time kept lapses orders bid ask → Shows r time kept lapses orders bid ask
 unfolding quantum_of clock_of present time_from live apply_all kept_below count_below best lead filter lapses_below lapses_of stretches
 shows Idle q time kept lapses orders bid ask g is h =
@@ -391,7 +391,7 @@ shows (Quoting place row opening events) q time kept lapses orders bid ask g is 
       ask_shown = h.ask_is row opening.spread events g.events_good is;
     }
 
-pub report_done : (m : Month) (time kept : Millis) (lapses orders : ℕ) (bid ask : Quote) (failures : List ℕ) (charge : Kopecks)
+pub report_done : (m : Month) (time kept : Millis) (lapses orders : ℕ) (bid ask : Option Steps) (failures : List ℕ) (charge : Kopecks)
     → ReadOff m.quantum time kept lapses orders bid ask → failures ≡ all_failures paper m.cells → charge ≡ kopecks (fee paper m.cells)
     → Answered m B.Report m
     (accepted (report (record { running = m.running; time = time; orders = orders; bid = bid; ask = ask; kept = kept; lapses = lapses; failures = failures; fee = charge })))

@@ -1,11 +1,10 @@
 -- A message, by what the quantum answers to it.
-use Rattle.std.specs.Prelude.{if◌then◌else◌}
+use Rattle.std.specs.Prelude.{if◌then◌else◌, Err, Ok}
 use Prim.Native.Nat.{ℕ}
 use mathlib.Core.Path.{◌≡◌, refl, ap, sym, ◌∙◌}
 use mathlib.Core.Bool.{Bool, true, false}
 use mathlib.Core.List.{List}
 use Rattle.rules.specs.declared.Event.{Event}
-use Rattle.rules.specs.declared.Answer.TheVariants.{Accepted, Refused}
 use Rattle.rules.specs.declared.Refusal.{Refusal}
 use Rattle.rules.specs.Terms.{paper}
 use Rattle.rules.specs.Answers.{accepted, refused, done, number_of, shown_answer}
@@ -45,7 +44,7 @@ module _ (es : List Event) where
   same_allowed (Quoting place row opening events) = refl
 
 module _ (m : Month) (start bytes : List ℕ) (r : AfterMessage) (a : Q.Answered m.quantum m.running (Message start bytes) r) where
-  pub message_refused : (f : Refusal) → r.answer ≡ Refused f → Answered m (Message start bytes) m (refused (number_of f))
+  pub message_refused : (f : Refusal) → r.answer ≡ Err f → Answered m (Message start bytes) m (refused (number_of f))
   unfolding answer_of
   message_refused f k =
       stopped_by m (Message start bytes) (number_of f) (λ b g is. ap shown_answer (sym k) ∙ a.answer b (in_book m b g is))
@@ -56,7 +55,7 @@ module _ (m : Month) (start bytes : List ℕ) (r : AfterMessage) (a : Q.Answered
   count_by true n k e calls h = ap (λ (x : ℕ). following (following x)) e ∙ ap (λ (c : ℕ). count_after c k) (sym h)
   count_by false n k e calls h = ap following e ∙ ap (λ (c : ℕ). count_after c k) (sym h)
 
-  pub message_done : (count : ℕ) → count ≡ (if r.second then following m.count else m.count) → r.answer ≡ Accepted
+  pub message_done : (count : ℕ) → count ≡ (if r.second then following m.count else m.count) → r.answer ≡ (Ok tt)
       → Answered m (Message start bytes) (counted (record { running = m.running; place = m.place; share = m.share; allowed = m.allowed; count = count; quantum = r.quantum; cells = m.cells }))
       (accepted done)
   unfolding answer_of changed month_of

@@ -1,16 +1,12 @@
 -- What the month's private functions promise to each other.
 use Rattle.std.specs.Prelude.{ℕ, false, List, set, ◌≡◌}
 use Rattle.rules.specs.declared.Cell.{Cell}
-use Rattle.rules.specs.declared.Row.{Row}
-use Rattle.rules.specs.declared.SpreadRule.{SpreadRule}
-use Rattle.rules.specs.declared.Event.{Event}
 use Rattle.rules.specs.declared.Amendment.{Amendment}
 use Rattle.rules.specs.declared.Preview.{Preview}
 use Rattle.rules.specs.Orders.{live}
 use Rattle.rules.specs.Kept.{best_bid, best_ask}
-use Rattle.rules.specs.Bounds.{EventBounds}
 use Rattle.quantum.specs.declared.Quantum.{Quantum}
-use Rattle.quantum.specs.Represents.{quantum_of}
+use Rattle.quantum.specs.Represents.{OfEvents}
 use Rattle.rules.specs.Calls.{Idle}
 use Rattle.rules.specs.Changes.{following}
 use Rattle.month.specs.declared.Month.{Month}
@@ -50,6 +46,6 @@ without_quantum m =
 
 -- what an ask shows of a quantum with the amendment taken: its best quotes, and the ticket
 pub record Previewed (q : Quantum) (a : Amendment) (count : ℕ) (p : Preview) : Type 0 where
-  pub bid : (row : Row) (sp : SpreadRule) (events : List Event) → EventBounds row events → q ≡ quantum_of row sp events → p.bid ≡ best_bid row (live events)
-  pub ask : (row : Row) (sp : SpreadRule) (events : List Event) → EventBounds row events → q ≡ quantum_of row sp events → p.ask ≡ best_ask row (live events)
+  pub bid : OfEvents q (λ row sp events. p.bid ≡ best_bid row (live events))
+  pub ask : OfEvents q (λ row sp events. p.ask ≡ best_ask row (live events))
   pub ticket : p.ticket ≡ record { amendment = a; count = count }

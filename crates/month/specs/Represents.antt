@@ -31,6 +31,10 @@ month_of b =
       cells = b.cells;
     }
 
+-- it holds of every list of calls that led to m
+abbrev pub OfCalls : Month → (List Call → Type 0) → Type 0
+OfCalls m Holds = (calls : List Call) → m ≡ month_of (after paper calls) → Holds calls
+
 -- "A month is the fresh one or what a call handed back": the month of some list of calls
 pub record Reached (m : Month) : Type 0 where
   pub calls : List Call
@@ -40,5 +44,5 @@ pub record Reached (m : Month) : Type 0 where
 -- and what its answer shows is what the plain book answers to this call after that list. It speaks of each such list, not of one that
 -- the proof picks, and there is one, since every call asks that m is `Reached`: so month and answer are fixed.
 pub record Answered (m : Month) (c : Call) (next : Month) (shown : Outcome Reply) : Type 0 where
-  pub month : (calls : List Call) → m ≡ month_of (after paper calls) → next ≡ month_of (after paper (calls ++ (c ∷ [])))
-  pub answer : (calls : List Call) → m ≡ month_of (after paper calls) → shown ≡ answer_of paper (after paper calls) c
+  pub month : OfCalls m (λ calls. next ≡ month_of (after paper (calls ++ (c ∷ []))))
+  pub answer : OfCalls m (λ calls. shown ≡ answer_of paper (after paper calls) c)

@@ -25,6 +25,10 @@ pub record Fits (m : Month) : Type 0 where
 abbrev pub words_after : List Call → List ℕ
 words_after calls = month_words (month_of (after paper calls))
 
+-- it holds of every list of calls whose month's words these start with
+abbrev pub OfWords : List ℕ → (List Call → Type 0) → Type 0
+OfWords words Holds = (calls : List Call) → take 2464 words ≡ words_after calls → Holds calls
+
 -- The words of a month: a fresh one's, or those that a call left. "a caller can make no other": a month is read from no other words.
 pub record HoldsMonth (words : List ℕ) : Type 0 where
   pub calls : List Call

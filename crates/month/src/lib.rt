@@ -19,12 +19,10 @@ ghost use Rattle.month.specs.declared.Month.{Month};
 ghost use Rattle.month.specs.Words.{month_words, Fits, HoldsMonth};
 ghost use Rattle.month.specs.Internal.{with_cell, without_quantum, counted, Previewed};
 
-use cells::Named;
-use numbers::both;
 use quantum::Quantum;
 use rules::{
-    Amendment, Answer, Asked, Cell, Contracts, Event, Kopecks, Looked, Millis, Opening,
-    OutlookAnswer, Preview, Refusal, Report, Row, RowRead, Side, SpreadRule, Steps, Strike, Ticket,
+    Amendment, Cell, CellView, Contracts, Event, Kopecks, Millis, Opening, Outlook, Preview,
+    Refusal, Report, Row, Side, SpreadRule, Steps, Strike, Ticket,
 };
 
 // Where the parts of a month's words start (specs/Words), the open quantum and the cells, and how many words it has.
@@ -44,72 +42,54 @@ pub struct Month {
     allowed: u32,
     count: u64,
     quantum: Quantum,
+    // Cell structs, blank or filled, in one array: the exchange's scope names the form.
     cells: [Cell; 186],
 }
 
-// What a call that shows nothing hands back.
+// What a call hands back: the month after it, and its answer.
 #[derive(Clone, Copy)]
-pub struct AfterCall {
+pub struct After<A> {
     pub month: Month,
-    pub answer: Answer,
+    pub answer: A,
 }
 
-// What look hands back.
-#[derive(Clone, Copy)]
-pub struct LookedAt {
-    pub month: Month,
-    pub answer: Looked,
-}
+// Of a call that shows nothing.
+pub type AfterCall = After<Result<(), Refusal>>;
 
-// What ask hands back.
-#[derive(Clone, Copy)]
-pub struct AskedAbout {
-    pub month: Month,
-    pub answer: Asked,
-}
+pub type LookedAt = After<Result<CellView, Refusal>>;
 
-// What report hands back.
-#[derive(Clone, Copy)]
-pub struct Reported {
-    pub month: Month,
-    pub answer: Report,
-}
+pub type AskedAbout = After<Result<Preview, Refusal>>;
 
-// What outlook hands back.
-#[derive(Clone, Copy)]
-pub struct AfterOutlook {
-    pub month: Month,
-    pub answer: OutlookAnswer,
-}
+pub type Reported = After<Report>;
+
+pub type AfterOutlook = After<Result<Outlook, Refusal>>;
 
 // Every refused call ends here, with the month as it was ..
 fn refused(month: Month, refusal: Refusal) -> AfterCall
-    ensures { (result.month ≡ month) × (result.answer ≡ Answer.Refused refusal) }
+    ensures { (result.month ≡ month) × (result.answer ≡ Err refusal) }
 {
-    AfterCall {
+    After {
         month,
-        answer: Answer::Refused(refusal),
+        answer: Err(refusal),
     }
 }
 
 // .. and every accepted one here, counted.
 fn accepted(month: Month) -> AfterCall
-    ensures { (result.month ≡ counted month) × (result.answer ≡ Answer.Accepted) }
+    ensures { (result.month ≡ counted month) × (result.answer ≡ (Ok tt)) }
 {
     let count = ticket::next(month.count);
-    let mut next = month;
-    next.count = count;
-    AfterCall {
-        month: next,
-        answer: Answer::Accepted,
+    After {
+        month: Month { count, ..month },
+        answer: Ok(()),
     }
 }
 
 // An ask ends here, with the month as it was whatever the answer.
-fn asked(month: Month, answer: Asked) -> AskedAbout
+fn asked(month: Month, answer: Result<Preview, Refusal>) -> AskedAbout
     ensures { (result.month ≡ month) × (result.answer ≡ answer) }
 {
-    AskedAbout { month, answer }
+    After { month, answer }
 }
 
 // What an accepted ask shows: the quotes of the quantum with the amendment taken, and the ticket.
@@ -191,7 +171,7 @@ impl Month {
         ensures { (words : List ℕ) → length words ≡ 7 → row_of words ≡ row → Answered self (B.Open words day opening) result.month (shown_answer result.answer) }
     {
         let spread = opening.spread;
-        if !both(ranges::between(1, 31, day), ranges::settlement(spread)) {
+        if !(ranges::between(1, 31, day) & ranges::settlement(spread)) {
             return refused(self, Refusal::ArgumentOutOfRange);
         }
         let place = cells::place_of(day, row.expiry, row.quantum);
@@ -229,8 +209,8 @@ impl Month {
         let spread = opening.spread;
         let read = row::read(words, spread);
         match read {
-            RowRead::Read(row) => self.open_row(row, day, opening),
-            RowRead::Refused(r) => refused(self, r),
+            Ok(row) => self.open_row(row, day, opening),
+            Err(r) => refused(self, r),
         }
     }
 
@@ -256,12 +236,12 @@ impl Month {
         let answer = sent.answer;
         let quantum = sent.quantum;
         match answer {
-            Answer::Accepted => {
+            Ok(()) => {
                 let mut next = self;
                 next.quantum = quantum;
                 accepted(next)
             }
-            Answer::Refused(r) => refused(self, r),
+            Err(r) => refused(self, r),
         }
     }
 
@@ -302,14 +282,14 @@ impl Month {
         let answer = sent.answer;
         let taken = sent.quantum;
         match answer {
-            Answer::Accepted => {
+            Ok(()) => {
                 let count = ticket::further(self.count, sent.second);
                 let mut next = self;
                 next.quantum = taken;
                 next.count = count;
                 accepted(next)
             }
-            Answer::Refused(r) => refused(self, r),
+            Err(r) => refused(self, r),
         }
     }
 
@@ -319,7 +299,7 @@ impl Month {
         ensures { (result.month ≡ self) × Answered self (B.Ask (record { t = t; id = id; price = price; volume = volume })) result.month (shown_asked result.answer) }
     {
         if !self.running {
-            return asked(self, Asked::Refused(Refusal::NoQuantumOpen));
+            return asked(self, Err(Refusal::NoQuantumOpen));
         }
         let before = self.quantum;
         let sent = before.send(Event::Amend {
@@ -331,11 +311,11 @@ impl Month {
         let answer = sent.answer;
         let after = sent.quantum;
         match answer {
-            Answer::Accepted => {
+            Ok(()) => {
                 let shown = preview(after, t, id, price, volume, self.count);
-                asked(self, Asked::Shown(shown))
+                asked(self, Ok(shown))
             }
-            Answer::Refused(r) => asked(self, Asked::Refused(r)),
+            Err(r) => asked(self, Err(r)),
         }
     }
 
@@ -361,13 +341,13 @@ impl Month {
         let amended = self.amend(t, id, price, volume);
         let answer = amended.answer;
         match answer {
-            Answer::Accepted => {
+            Ok(()) => {
                 if present {
                     return amended;
                 }
                 refused(self, Refusal::WrongTicket)
             }
-            Answer::Refused(own) => refused(self, own),
+            Err(own) => refused(self, own),
         }
     }
 
@@ -450,13 +430,11 @@ impl Month {
             return refused(self, Refusal::ArgumentOutOfRange);
         }
         let cells = self.cells;
-        let found = cells::find(cells, day, expiry, quantum);
-        match found {
-            Named::OutOfRange => refused(self, Refusal::ArgumentOutOfRange),
-            Named::Blank => refused(self, Refusal::CellBlank),
-            Named::Filled(place, cell) => {
+        match cells::find(cells, day, expiry, quantum) {
+            Ok((place, cell)) => {
                 accepted(self.with_cell(place, cells::recharged(cell, active, passive)))
             }
+            Err(refusal) => refused(self, refusal),
         }
     }
 
@@ -466,11 +444,9 @@ impl Month {
         ensures { Answered self (B.Withdraw day expiry quantum) result.month (shown_answer result.answer) }
     {
         let cells = self.cells;
-        let found = cells::find(cells, day, expiry, quantum);
-        match found {
-            Named::OutOfRange => refused(self, Refusal::ArgumentOutOfRange),
-            Named::Blank => refused(self, Refusal::CellBlank),
-            Named::Filled(place, _) => accepted(self.with_cell(place, cells::blank_cell())),
+        match cells::find(cells, day, expiry, quantum) {
+            Ok((place, _)) => accepted(self.with_cell(place, cells::blank_cell())),
+            Err(refusal) => refused(self, refusal),
         }
     }
 
@@ -480,19 +456,14 @@ impl Month {
         ensures { (result.month ≡ self) × Answered self (B.Look day expiry quantum) result.month (shown_looked result.answer) }
     {
         let cells = self.cells;
-        let found = cells::find(cells, day, expiry, quantum);
-        match found {
-            Named::OutOfRange => LookedAt {
+        match cells::find(cells, day, expiry, quantum) {
+            Ok((_, cell)) => After {
                 month: self,
-                answer: Looked::Refused(Refusal::ArgumentOutOfRange),
+                answer: Ok(verdict::view(cell)),
             },
-            Named::Blank => LookedAt {
+            Err(refusal) => After {
                 month: self,
-                answer: Looked::Refused(Refusal::CellBlank),
-            },
-            Named::Filled(_, cell) => LookedAt {
-                month: self,
-                answer: Looked::Found(verdict::view(cell)),
+                answer: Err(refusal),
             },
         }
     }
@@ -504,15 +475,15 @@ impl Month {
     {
         let cells = self.cells;
         let q = self.quantum;
-        let failures = pay::failures(cells);
-        let fee = pay::fee(cells);
+        let failures = pay::failures(&cells);
+        let fee = pay::fee(&cells);
         let time = q.now();
         let orders = q.live();
         let bid = q.best_bid();
         let ask = q.best_ask();
         let kept = q.kept_so_far();
         let lapses = q.lapses_so_far();
-        Reported {
+        After {
             month: self,
             answer: Report {
                 running: self.running,
@@ -534,16 +505,16 @@ impl Month {
         ensures { (result.month ≡ self) × Answered self B.Outlook result.month (shown_outlook result.answer) }
     {
         if !self.running {
-            return AfterOutlook {
+            return After {
                 month: self,
-                answer: OutlookAnswer::Refused(Refusal::NoQuantumOpen),
+                answer: Err(Refusal::NoQuantumOpen),
             };
         }
         let q = self.quantum;
         let seen = outlook::of(q.duty(), q.clock(), self.share, self.allowed);
-        AfterOutlook {
+        After {
             month: self,
-            answer: OutlookAnswer::Shown(seen),
+            answer: Ok(seen),
         }
     }
 
@@ -556,14 +527,14 @@ impl Month {
         let quantum = self.quantum;
         let cells = self.cells;
         let six = [
-            lent::flag(self.running),
+            u32::from(self.running),
             self.place as u32,
             self.share,
             self.allowed,
             lent::low(count),
             lent::high(count),
         ];
-        lent::copy(&six, &mut words[0..6]);
+        words[0..6].copy_from_slice(&six);
         quantum.to_words(&mut words[QUANTUM_AT..CELLS_AT]);
         lent::put_cells(cells, &mut words[CELLS_AT..MONTH_WORDS]);
     }
@@ -573,8 +544,8 @@ impl Month {
         requires { HoldsMonth words.now × (2464 ≤ length words.now) }
         ensures { (m : Month) → Fits m → take 2464 words.now ≡ month_words m → result ≡ m }
     {
-        let running = lent::is_set(words[0]);
-        let place = numbers::length(words[1]);
+        let running = words[0] == 1;
+        let place = words[1] as usize;
         let count = lent::wide(words[4], words[5]);
         let quantum = Quantum::of_words(&words[QUANTUM_AT..CELLS_AT]);
         let cells = lent::cells_in(&words[CELLS_AT..MONTH_WORDS]);

@@ -1,13 +1,14 @@
 -- An ask on a copy of the quantum's words, and what it shows of the month's.
+use Rattle.std.proofs.Common.{Option}
 use Prim.Native.Nat.{ℕ, zero, suc, ◌+◌, ◌*◌, ◌≤◌, ◌<◌}
 use native.Mathlib.Omega.{arith}
 use mathlib.Core.Path.{◌≡◌, refl, sym, ap, subst, ◌∙◌}
 use mathlib.Core.Bool.{true}
 use mathlib.Core.List.{List}
 use lib.ListN.{get_or, take, drop}
+use Rattle.rules.specs.declared.Steps.{Steps}
 use Rattle.rules.specs.declared.Amendment.{Amendment}
 use Rattle.rules.specs.declared.Preview.{Preview}
-use Rattle.rules.specs.declared.Quote.{Quote}
 use Rattle.rules.specs.declared.Refusal.{Refusal}
 use Rattle.rules.specs.declared.Side.TheVariants.{Buy, Sell}
 use Rattle.rules.specs.declared.Order.{Order}
@@ -41,7 +42,7 @@ use Rattle.month_in_place.proofs.Looks.{shown_of}
 
 -- ---- what is shown of a quantum's words
 
-pub previewed : (ws : List ℕ) (a : Amendment) (count : ℕ) (bid ask : Quote)
+pub previewed : (ws : List ℕ) (a : Amendment) (count : ℕ) (bid ask : Option Steps)
     → ((m : ℕ) (orders : List Order) → GoodOrders orders → take 512 (drop 10 ws) ≡ table_of m orders → bid ≡ best Buy m orders)
     → ((m : ℕ) (orders : List Order) → GoodOrders orders → take 512 (drop 10 ws) ≡ table_of m orders → ask ≡ best Sell m orders)
     → (q : Quantum) → Sized q → ws ≡ quantum_words q → Previewed q a count (record { bid = bid; ask = ask; ticket = record { amendment = a; count = count } })

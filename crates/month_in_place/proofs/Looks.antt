@@ -35,19 +35,6 @@ shown_of ws c o a =
       answer = λ calls is. (a calls is).answer calls refl;
     }
 
--- ---- a cell among the cells' words
-
-pub cell_end : (from day expiry quantum n : ℕ) → from ≡ 10 * place_of day expiry quantum → good_cell day expiry quantum ≡ true → n ≡ 1860 → from + 10 ≤ n
-cell_end from day expiry quantum n e g h = omega (arith, e, h, cell_small day expiry quantum g)
-
-pub cell_read : (ws : List ℕ) (from k day expiry quantum : ℕ) (c : Cell) → from ≡ 10 * place_of day expiry quantum → k ≡ 10 → good_cell day expiry quantum ≡ true
-    → length ws ≡ 1860 → ((d : Cell) → take k (drop from ws) ≡ cell_words d → c ≡ d) → (cells : List Cell) → ws ≡ cells_words cells
-    → c ≡ cell_at cells (place_of day expiry quantum)
-cell_read ws from k day expiry quantum c e t g n read cells is =
-    let place = place_of day expiry quantum in
-    let inside : place < length cells = omega (arith, n, ap length is, cells_length cells, cell_small day expiry quantum g) in
-    read (cell_at cells place) ((λ i. take k (drop (e i) (is i))) ∙ cell_at_lem cells place k blank_cell inside t)
-
 -- ---- the look
 
 module _ (ws : List ℕ) (day expiry quantum : ℕ) where

@@ -1,4 +1,5 @@
 -- An event on the words of a month, from what it does to the quantum's: with none open, refused and accepted.
+use Rattle.std.proofs.Common.{Ok}
 use Prim.Native.Nat.{ℕ, zero, suc, ◌+◌, ◌*◌, ◌≤◌, ◌<◌}
 use native.Mathlib.Omega.{arith}
 use mathlib.Core.Path.{◌≡◌, refl, sym, ap, ◌∙◌}
@@ -7,7 +8,6 @@ use mathlib.Core.List.{List, [], ◌∷◌, ◌++◌, append_assoc}
 use lib.ListN.{get_or, take, drop, take-append-drop}
 use lib.Seq.{drop_at}
 use Rattle.rules.specs.declared.Event.{Event}
-use Rattle.rules.specs.declared.Answer.TheVariants.{Accepted}
 use Rattle.rules.specs.Terms.{paper}
 use Rattle.rules.specs.Answers.{Outcome, accepted, refused, outcome_by, Reply, done}
 use Rattle.rules.specs.Calls.{Call, Send, Book}
@@ -129,7 +129,7 @@ module _ (ws : List ℕ) (calls : List Call) (is : take 2464 ws ≡ words_after 
 
     module _ (z : n ≡ 0) where
       abbrev pub sent : Sent
-      sent = record { quantum = next; answer = Accepted }
+      sent = record { quantum = next; answer = (Ok tt) }
 
       pub went_on : S.Answered month.quantum e sent
       went_on =

@@ -22,7 +22,7 @@ ghost use Rattle.month_in_place.specs.Events.{ChangesMonth, ShowsMonth};
 use month::{CELLS_AT, MONTH_WORDS, QUANTUM_AT};
 use quantum::{NOTES_AT, TABLE_AT};
 use record::Fields;
-use rules::{Amendment, Asked, Cell, Looked, Preview, Refusal, Side, Ticket};
+use rules::{Amendment, Cell, CellView, Preview, Refusal, Side, Ticket};
 
 // ---- words that a caller lends
 
@@ -30,7 +30,7 @@ use rules::{Amendment, Asked, Cell, Looked, Preview, Refusal, Side, Ticket};
 fn too_many(buys: u32, sells: u32) -> bool
     ensures { result ≡ ltb 64 (buys + sells) }
 {
-    64 < numbers::wide(buys) + numbers::wide(sells)
+    64 < u64::from(buys) + u64::from(sells)
 }
 
 // Whether words can be a month's, by the few that every call rests on (specs/Entry). A month's always can.
@@ -80,24 +80,22 @@ fn cell_named(words: &[u32], day: u32, expiry: u32, quantum: u32) -> Cell
     requires { (length words.now ≡ 1860) × (good_cell day expiry quantum ≡ true) }
     ensures { (cells : List Cell) → words.now ≡ cells_words cells → result ≡ cell_at cells (place_of day expiry quantum) }
 {
-    let from = 10 * cells::place_of(day, expiry, quantum);
-    let to = from + 10;
-    lent::cell_in(&words[from..to])
+    cells_in_place::at(words, cells::place_of(day, expiry, quantum))
 }
 
 // A look: the cell with verdict and weight. The words are as they were.
-pub fn look(words: &[u32], day: u32, expiry: u32, quantum: u32) -> Looked
+pub fn look(words: &[u32], day: u32, expiry: u32, quantum: u32) -> Result<CellView, Refusal>
     requires { HoldsMonth words.now × (2464 ≤ length words.now) }
     ensures { ShowsMonth words.now (Look day expiry quantum) (shown_looked result) }
 {
     if !ranges::cell(day, expiry, quantum) {
-        return Looked::Refused(Refusal::ArgumentOutOfRange);
+        return Err(Refusal::ArgumentOutOfRange);
     }
     let cell = cell_named(&words[CELLS_AT..MONTH_WORDS], day, expiry, quantum);
     if verdict::is_filled(cell) {
-        return Looked::Found(verdict::view(cell));
+        return Ok(verdict::view(cell));
     }
-    Looked::Refused(Refusal::CellBlank)
+    Err(Refusal::CellBlank)
 }
 
 // The amendment as an event's fields.
@@ -135,19 +133,19 @@ fn preview(words: &[u32], a: Amendment, count: u64) -> Preview
 
 // An ask: the amendment is tried on a copy of the quantum's words. The month's words are as they were, and where it is refused the hints
 // too.
-pub fn ask(words: &[u32], hints: &mut [u8], a: Amendment) -> Asked
+pub fn ask(words: &[u32], hints: &mut [u8], a: Amendment) -> Result<Preview, Refusal>
     requires { HoldsMonth words.now × (2464 ≤ length words.now) × (length hints.old ≡ 2048) }
     ensures { ShowsMonth words.now (Ask a) (shown_asked result) × ((n : ℕ) → shown_asked result ≡ refused n → hints.new ≡ hints.old) }
 {
     if words[0] == 0 {
-        return Asked::Refused(Refusal::NoQuantumOpen);
+        return Err(Refusal::NoQuantumOpen);
     }
     let count = lent::wide(words[4], words[5]);
     let mut copy = [0u32; 598];
-    lent::copy(&words[QUANTUM_AT..CELLS_AT], &mut copy);
+    copy.copy_from_slice(&words[QUANTUM_AT..CELLS_AT]);
     let n = quantum_in_place::amend(&mut copy, hints, amend_fields(a));
     if 0 < n {
-        return Asked::Refused(rules::refusal_of(n));
+        return Err(rules::refusal_of(n));
     }
-    Asked::Shown(preview(&copy, a, count))
+    Ok(preview(&copy, a, count))
 }

@@ -46,27 +46,28 @@ use Rattle.month_in_place.proofs.Months.{flag_off, flag_on, flag_is}
 use Rattle.month.specs.Words.{words_after}
 use Rattle.month_in_place.specs.Entry.{may_be_month}
 use Rattle.month_in_place.proofs.Entry.{month_passes}
-use Rattle.month_view.specs.declared.Viewed.{Viewed}
-use Rattle.month_view.specs.declared.Viewed.TheVariants.{WordsShort, NoMonth, BufferShort, Written}
+use Rattle.std.proofs.Common.{Result, Ok, Err}
+use Rattle.month_view.specs.declared.ViewError.{ViewError}
+use Rattle.month_view.specs.declared.ViewError.TheVariants.{WordsShort, NoMonth, BufferShort}
 use Rattle.month_view.specs.Views.{orders_words, head_words, quoting_words, view_words, Shown, Views}
 use Rattle.month_view.specs.Internal.{head_from, Listed}
 use Rattle.month_view.proofs.Orders.{orders_length}
 
 -- ---- in a lent buffer
 
-pub fits : (view before behind : List ℕ) (n : ℕ) → n ≡ length view → n ≤ length before → behind ≡ view ++ drop n before → Shown view before behind (Written n)
+pub fits : (view before behind : List ℕ) (n : ℕ) → n ≡ length view → n ≤ length before → behind ≡ view ++ drop n before → Shown view before behind (Ok n)
 fits view before behind n e h b =
     let room : leb (length view) (length before) ≡ true = le-leb (length view) (length before) (omega (arith, e, h)) in
     record {
-      answer = ap Written e ∙ ap (λ (t : Bool). if t then Written (length view) else BufferShort) (sym room);
+      answer = ap (λ (k : ℕ). Ok k) e ∙ ap (λ (t : Bool). if t then Ok (length view) else Err BufferShort) (sym room);
       buffer = b ∙ ap (λ (m : ℕ). view ++ drop m before) e ∙ ap (λ (t : Bool). if t then view ++ drop (length view) before else before) (sym room);
     }
 
-pub falls : (view before : List ℕ) → length before < length view → Shown view before before BufferShort
+pub falls : (view before : List ℕ) → length before < length view → Shown view before before (Err BufferShort)
 falls view before h =
     let none : leb (length view) (length before) ≡ false = lt-leb (length view) (length before) h in
     record {
-      answer = ap (λ (t : Bool). if t then Written (length view) else BufferShort) (sym none);
+      answer = ap (λ (t : Bool). if t then Ok (length view) else Err BufferShort) (sym none);
       buffer = ap (λ (t : Bool). if t then view ++ drop (length view) before else before) (sym none);
     }
 
@@ -145,7 +146,7 @@ module _ (q : List ℕ) (row : Row) (spread : SpreadRule) (events : List Event) 
         length-append (head_words day allowed row spread events) (orders_words (live events)) ∙ omega (arith, head-length, orders_length (live events))
 
     module _ (count : ℕ) (c : count ≡ length (live events)) (before : List ℕ) where
-      pub shows_short : length before < 17 + 4 * count → Shown (quoting_words day allowed row spread events) before before BufferShort
+      pub shows_short : length before < 17 + 4 * count → Shown (quoting_words day allowed row spread events) before before (Err BufferShort)
       shows_short h = falls (quoting_words day allowed row spread events) before (omega (arith, h, c, view_length))
 
       module _ (state : ℕ) (s : state ≡ state_word (orders_state row spread (live events))) (h : 17 + 4 * count ≤ length before) (head orders : List ℕ)
@@ -162,7 +163,7 @@ module _ (q : List ℕ) (row : Row) (spread : SpreadRule) (events : List Event) 
 
         pub shows_all : (k : ℕ) → 17 + k ≡ 17 + 4 * count
             → Shown (quoting_words day allowed row spread events) before
-            (take 17 (head ++ drop 17 before) ++ (orders ++ drop k (drop 17 (head ++ drop 17 before)))) (Written (17 + 4 * count))
+            (take 17 (head ++ drop 17 before) ++ (orders ++ drop k (drop 17 (head ++ drop 17 before)))) (Ok (17 + 4 * count))
         shows_all k e = fits (quoting_words day allowed row spread events) before _ (17 + 4 * count) (omega (arith, c, view_length)) h (laid k e)
 
 -- room for the orders after the words in front of them
@@ -188,7 +189,7 @@ module _ (ws : List ℕ) where
       omega (arith, h, ap length (sym (take_all 2464 ws (omega (arith, h))) ∙ is), month-length (month_of (after paper calls)) (month-fits calls))
 
   module _ (before : List ℕ) where
-    pub views_short : length ws < 2464 → Views ws before before WordsShort
+    pub views_short : length ws < 2464 → Views ws before before (Err WordsShort)
     views_short h =
         record {
           short = λ l. (refl, refl);
@@ -196,7 +197,7 @@ module _ (ws : List ℕ) where
           shown = λ calls is. absurd (no_month h calls is);
         }
 
-    pub views_foreign : 2464 ≤ length ws → may_be_month ws ≡ false → Views ws before before NoMonth
+    pub views_foreign : 2464 ≤ length ws → may_be_month ws ≡ false → Views ws before before (Err NoMonth)
     views_foreign h e =
         record {
           short = λ l. absurd (omega (arith, h, l));
@@ -204,7 +205,7 @@ module _ (ws : List ℕ) where
           shown = λ calls is. absurd (true≢false (sym (month_passes ws h (record { calls = calls; is = is })) ∙ e));
         }
 
-    pub views_none : 2464 ≤ length ws → may_be_month ws ≡ true → get_or ws 0 0 ≡ 0 → Views ws before before (Written 0)
+    pub views_none : 2464 ≤ length ws → may_be_month ws ≡ true → get_or ws 0 0 ≡ 0 → Views ws before before (Ok 0)
     views_none h m z =
         record {
           short = λ l. absurd (omega (arith, h, l));
@@ -212,11 +213,11 @@ module _ (ws : List ℕ) where
           shown = λ calls is.
               let b = after paper calls in
               let off = flag_off (month_of b).running (sym (flag_is ws calls is) ∙ z) in
-              subst (λ (r : Running). Shown (view_words r) before before (Written 0)) (sym (idle_is b.running (closed_is (month_of b) b refl off)))
+              subst (λ (r : Running). Shown (view_words r) before before (Ok 0)) (sym (idle_is b.running (closed_is (month_of b) b refl off)))
               (fits [] before before 0 refl (omega arith) refl);
         }
 
-    pub views_open : 2464 ≤ length ws → may_be_month ws ≡ true → (get_or ws 0 0 ≡ 0 → ⊥) → (behind : List ℕ) (r : Viewed)
+    pub views_open : 2464 ≤ length ws → may_be_month ws ≡ true → (get_or ws 0 0 ≡ 0 → ⊥) → (behind : List ℕ) (r : Result ℕ ViewError)
         → ((row : Row) (spread : SpreadRule) (events : List Event) → EventBounds row events → take 598 (drop 6 ws) ≡ quantum_words (quantum_of row spread events)
         → Shown (quoting_words (day_at (get_or ws 1 0)) (get_or ws 3 0) row spread events) before behind r)
         → Views ws before behind r

@@ -1,5 +1,5 @@
 -- The state now: the open quantum in words, by the plain book, for whoever shows it. It is no call of the papers and alters nothing.
-use Rattle.std.specs.Prelude.{ℕ, ◌≤◌, ◌<◌, ◌≡◌, false, List, [], ◌∷◌, ◌++◌, leb, length, take, drop, if◌then◌else◌}
+use Rattle.std.specs.Prelude.{ℕ, ◌≤◌, ◌<◌, ◌≡◌, false, List, [], ◌∷◌, ◌++◌, leb, length, drop, Result, Ok, Err, if◌then◌else◌}
 use Rattle.rules.specs.declared.Order.{Order}
 use Rattle.rules.specs.declared.Row.{Row}
 use Rattle.rules.specs.declared.SpreadRule.{SpreadRule}
@@ -13,10 +13,10 @@ use Rattle.rules.specs.Calls.{Call, Running, Idle, Quoting}
 use Rattle.rules.specs.Book.{after}
 use Rattle.order_arrivals.specs.Notes.{row_words, spread_words}
 use Rattle.clock.specs.Clocks.{widest_for}
-use Rattle.month.specs.Words.{words_after}
+use Rattle.month.specs.Words.{OfWords}
 use Rattle.month_in_place.specs.Entry.{may_be_month}
-use Rattle.month_view.specs.declared.Viewed.{Viewed}
-use Rattle.month_view.specs.declared.Viewed.TheVariants.{WordsShort, NoMonth, BufferShort, Written}
+use Rattle.month_view.specs.declared.ViewError.{ViewError}
+use Rattle.month_view.specs.declared.ViewError.TheVariants.{WordsShort, NoMonth, BufferShort}
 
 -- an order: its id, its side (1 buy, 2 sell), its price in two's complement, its volume
 unfoldable pub order_words : Order → List ℕ
@@ -45,13 +45,13 @@ view_words (Quoting place row opening events) = quoting_words (day_at place) ope
 
 -- a view in a lent buffer: its words at the front, with the words after them kept, and their number; a short buffer is answered as such
 -- and nothing is written
-pub record Shown (view before behind : List ℕ) (r : Viewed) : Type 0 where
-  pub answer : r ≡ (if leb (length view) (length before) then Written (length view) else BufferShort)
+pub record Shown (view before behind : List ℕ) (r : Result ℕ ViewError) : Type 0 where
+  pub answer : r ≡ (if leb (length view) (length before) then Ok (length view) else Err BufferShort)
   pub buffer : behind ≡ (if leb (length view) (length before) then view ++ drop (length view) before else before)
 
 -- for every list of calls whose month these words are, what it writes is the plain book's; fewer words than a month's, and words that are no
 -- month's by the tests on entry, are answered as such
-pub record Views (words before behind : List ℕ) (r : Viewed) : Type 0 where
-  pub short : length words < 2464 → (r ≡ WordsShort) × (behind ≡ before)
-  pub foreign : 2464 ≤ length words → may_be_month words ≡ false → (r ≡ NoMonth) × (behind ≡ before)
-  pub shown : (calls : List Call) → take 2464 words ≡ words_after calls → Shown (view_words (after paper calls).running) before behind r
+pub record Views (words before behind : List ℕ) (r : Result ℕ ViewError) : Type 0 where
+  pub short : length words < 2464 → (r ≡ Err WordsShort) × (behind ≡ before)
+  pub foreign : 2464 ≤ length words → may_be_month words ≡ false → (r ≡ Err NoMonth) × (behind ≡ before)
+  pub shown : OfWords words (λ calls. Shown (view_words (after paper calls).running) before behind r)

@@ -3,17 +3,11 @@
 #![tactic(auto)]
 
 ghost use Rattle.std.specs.Prelude.{◌≡◌, true, ◌&&◌, List, ◌*◌, ◌≤◌, eqb, ltb, length, get_or, if◌then◌else◌};
-ghost use Rattle.rules.specs.declared.Row.{Row};
-ghost use Rattle.rules.specs.declared.SpreadRule.{SpreadRule};
-ghost use Rattle.rules.specs.declared.Event.{Event};
 ghost use Rattle.rules.specs.declared.Side.TheVariants.{Buy};
 ghost use Rattle.rules.specs.Quotes.{same};
-ghost use Rattle.rules.specs.Bounds.{EventBounds};
 ghost use Rattle.order_table.specs.Internal.{blank_order};
-ghost use Rattle.quantum.specs.Represents.{quantum_of};
-ghost use Rattle.quantum.specs.Words.{quantum_words};
 ghost use Rattle.month.specs.Words.{HoldsMonth};
-ghost use Rattle.quantum_in_place.specs.Events.{HoldsQuantum};
+ghost use Rattle.quantum_in_place.specs.Events.{HoldsQuantum, OfWords};
 ghost use Rattle.month_in_place.specs.Entry.{may_be_month};
 ghost use Rattle.month_view.specs.Views.{order_words, orders_words, quoting_words, Shown, Views};
 ghost use Rattle.month_view.specs.Internal.{head_from, NextIn, Listed};
@@ -22,14 +16,12 @@ use month::{CELLS_AT, MONTH_WORDS, QUANTUM_AT};
 use quantum::{NOTES_AT, OPENING_AT, QUANTUM_WORDS, TABLE_AT};
 use rules::{Order, Side};
 
-// The result of a view: the month's words are too few, or no month's, or the buffer's are too few, and then nothing is written; or so many
-// words were written, 0 with none open.
-#[derive(Clone, Copy)]
-pub enum Viewed {
+// Why nothing is written: the month's words are too few, or no month's, or the buffer's are too few.
+#[derive(Clone, Copy, PartialEq, Eq, Debug)]
+pub enum ViewError {
     WordsShort,
     NoMonth,
     BufferShort,
-    Written(usize),
 }
 
 // ---- the orders
@@ -87,15 +79,13 @@ fn put_orders(table: &[u32], ids: &[u32], into: &mut [u32])
     ensures { (l : Listed table.now ids.now) → into.new ≡ orders_words l.live }
 {
     let mut buys: usize = 0;
-    let mut i: usize = 0;
-    while i < ids.len() {
+    for i in 0..ids.len() {
         let order = order_next(table, ids[i], buys, i - buys);
         let side = order.side;
         let from = 4 * i;
         let to = from + 4;
         put_order(order, &mut into[from..to]);
         buys += buys_of(side);
-        i += 1;
     }
 }
 
@@ -114,15 +104,15 @@ fn put_head(day: u32, allowed: u32, state: u32, count: u32, quantum: &[u32], int
 }
 
 // The open quantum, from its words.
-fn show(day: u32, allowed: u32, quantum: &[u32], buffer: &mut [u32]) -> Viewed
+fn show(day: u32, allowed: u32, quantum: &[u32], buffer: &mut [u32]) -> Result<usize, ViewError>
     requires { HoldsQuantum quantum.now × (length quantum.now ≡ 598) }
-    ensures { (row : Row) (spread : SpreadRule) (events : List Event) → EventBounds row events → quantum.now ≡ quantum_words (quantum_of row spread events) → Shown (quoting_words day allowed row spread events) buffer.old buffer.new result }
+    ensures { OfWords quantum.now (λ row spread events. Shown (quoting_words day allowed row spread events) buffer.old buffer.new result) }
 {
     let count = order_table::count(&quantum[TABLE_AT..NOTES_AT]);
     let live = count as usize;
     let size = 17 + 4 * live;
     if buffer.len() < size {
-        return Viewed::BufferShort;
+        return Err(ViewError::BufferShort);
     }
     let state = order_table::state(&quantum[TABLE_AT..NOTES_AT], quantum[2]);
     put_head(day, allowed, state, count, quantum, &mut buffer[0..17]);
@@ -131,22 +121,22 @@ fn show(day: u32, allowed: u32, quantum: &[u32], buffer: &mut [u32]) -> Viewed
         &quantum[NOTES_AT..NOTES_AT + live],
         &mut buffer[17..size],
     );
-    Viewed::Written(size)
+    Ok(size)
 }
 
-// The state now, of a month's words.
-pub fn view(words: &[u32], buffer: &mut [u32]) -> Viewed
+// The state now, of a month's words: how many words were written, 0 with no quantum open.
+pub fn view(words: &[u32], buffer: &mut [u32]) -> Result<usize, ViewError>
     requires { 2464 ≤ length words.now → may_be_month words.now ≡ true → HoldsMonth words.now }
     ensures { Views words.now buffer.old buffer.new result }
 {
     if words.len() < MONTH_WORDS {
-        return Viewed::WordsShort;
+        return Err(ViewError::WordsShort);
     }
     if !month_in_place::may_be_month(words) {
-        return Viewed::NoMonth;
+        return Err(ViewError::NoMonth);
     }
     if words[0] == 0 {
-        return Viewed::Written(0);
+        return Ok(0);
     }
     show(
         words[1] / 6 + 1,

@@ -1,5 +1,5 @@
 -- A block that is an event or a look: its fields, and what becomes of the words and the answer.
-use Rattle.std.specs.Prelude.{if◌then◌else◌}
+use Rattle.std.specs.Prelude.{if◌then◌else◌, Option, Some, None, IfSome}
 use Prim.Native.Nat.{ℕ, zero, suc, ◌%◌, ◌<◌, ◌≤◌}
 use native.Mathlib.Omega.{arith}
 use mathlib.Core.Path.{◌≡◌, refl, sym, ap, ◌∙◌}
@@ -113,9 +113,11 @@ module _ (bytes : List ℕ) (f : Fields) (kind : ℕ) (first : kind ≡ get_or (
         fields = e;
       }
 
--- fields that say none
-pub none_said : (f : Fields) (A : Type 0) → f.kind ≡ 0 → 0 < f.kind → A
-none_said f A e h = absurd (omega (arith, e, h))
+-- an add's, or none
+pub says_added : (bytes : List ℕ) (kind : ℕ) → kind ≡ get_or (words_in bytes) 0 0 → Is bytes kind 2 24 → (r : Option Fields) → IfSome r (SaysAdd (words_in bytes))
+    → IfSome r (SaysBlock bytes)
+says_added bytes kind first h None a = tt
+says_added bytes kind first h (Some f) a = says_add bytes f kind first h a
 
 -- an add's fields
 side_due : (side : ℕ) → (eqb side 1 || eqb side 2) ≡ true → add_due side ≡ 6

@@ -1,5 +1,5 @@
 -- What a call promises on a month whose words are lent.
-use Rattle.std.specs.Prelude.{ℕ, ◌%◌, ◌≡◌, Bool, true, false, not, ◌&&◌, List, [], ◌∷◌, ◌++◌, eqb, leb, length, take, drop, if◌then◌else◌}
+use Rattle.std.specs.Prelude.{ℕ, ◌%◌, ◌≡◌, Result, Ok, Err, OnOk, OnErr, Bool, true, false, not, ◌&&◌, List, [], ◌∷◌, ◌++◌, eqb, leb, length, take, drop, if◌then◌else◌}
 use Rattle.rules.specs.Terms.{paper}
 use Rattle.rules.specs.Answers.{refused}
 use Rattle.rules.specs.Calls as C
@@ -10,8 +10,8 @@ use Rattle.call_blocks.specs.Kinds.{block_size, call_of}
 use Rattle.answer_words.specs.Words.{answer_words}
 use Rattle.month.specs.Words.{words_after}
 use Rattle.month_in_place.specs.Entry.{may_be_month}
-use Rattle.month_words.specs.declared.Called.{Called}
-use Rattle.month_words.specs.declared.Called.TheVariants.{Done, WordsShort, NoMonth, HintsShort, AnswerShort, NoCall}
+use Rattle.month_words.specs.declared.CallError.{CallError}
+use Rattle.month_words.specs.declared.CallError.TheVariants.{WordsShort, NoMonth, HintsShort, AnswerShort, NoCall}
 
 -- one call's block, and nothing more
 unfoldable pub is_call : List ℕ → Bool
@@ -20,11 +20,11 @@ is_call bytes =
     (not (eqb size 0) && eqb size (length (words_in bytes))) && eqb (length bytes % 4) 0
 
 -- what became of a call
-abbrev pub called_by : Bool → Bool → Bool → Bool → Bool → Called
+abbrev pub called_by : Bool → Bool → Bool → Bool → Bool → Result (Unit {0}) CallError
 called_by words month hints answer call =
     if words
-    then (if month then (if hints then (if answer then (if call then Done else NoCall) else AnswerShort) else HintsShort) else NoMonth)
-    else WordsShort
+    then (if month then (if hints then (if answer then (if call then Ok tt else Err NoCall) else Err AnswerShort) else Err HintsShort) else Err NoMonth)
+    else Err WordsShort
 
 -- For every list of calls whose month these words are: they are those of the longer list, and the answer's words are the plain book's
 -- answer, of refused calls too. The contents after the words and after the answer are kept.
@@ -61,8 +61,8 @@ pub record LeavesHints (words hints bytes hints' : List ℕ) : Type 0 where
 -- Too few words for a month, words that are no month's by the tests on entry, too few hints, too few words for an answer, and bytes that are
 -- no call, are answered as such, and then nothing is changed, nor are the hints. The hints are no function of the month, and what is answered and left in the words is the same
 -- whatever they contain. What an accepted event, message, ask or commit leaves in the first 2,048 bytes is free.
-pub record Calling (words hints out bytes words' hints' out' : List ℕ) (r : Called) : Type 0 where
+pub record Calling (words hints out bytes words' hints' out' : List ℕ) (r : Result (Unit {0}) CallError) : Type 0 where
   pub called : r ≡ called_by (leb 2464 (length words)) (may_be_month words) (leb 2048 (length hints)) (leb 20 (length out)) (is_call bytes)
-  pub done : r ≡ Done → Performs words out bytes words' out'
-  pub kept : (r ≡ Done → ⊥) → (words' ≡ words) × (hints' ≡ hints) × (out' ≡ out)
+  pub done : OnOk r (Performs words out bytes words' out')
+  pub kept : OnErr r ((words' ≡ words) × (hints' ≡ hints) × (out' ≡ out))
   pub leaves : LeavesHints words hints bytes hints'

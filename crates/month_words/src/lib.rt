@@ -6,7 +6,7 @@
 // be right only where it says an event (`SaysBlock`). Every call goes in place: none copies the month.
 #![tactic(auto)]
 
-ghost use Rattle.std.specs.Prelude.{◌≡◌, [], ◌++◌, true, false, ◌+◌, ◌*◌, ◌≤◌, ◌<◌, leb, length, drop, get_or, if◌then◌else◌};
+ghost use Rattle.std.specs.Prelude.{◌≡◌, IfSome, [], ◌++◌, true, false, ◌+◌, ◌*◌, ◌≤◌, ◌<◌, leb, length, drop, get_or, if◌then◌else◌};
 ghost use Rattle.rules.specs.declared.Event.{Event};
 ghost use Rattle.rules.specs.Terms.{paper};
 ghost use Rattle.rules.specs.Answers.{outcome_by, done};
@@ -28,18 +28,17 @@ ghost use Rattle.month_words.specs.Internal.{amend_in, cancel_in, deal_in, tick_
 use call_blocks::Decoded;
 use month::MONTH_WORDS;
 use record::Fields;
-use rules::{Amendment, Asked, Contracts, Event, Looked, Millis, Opening, OutlookAnswer, Steps};
+use rules::{Amendment, Contracts, Event, Millis, Opening, Steps};
 
 // How many bytes the hints have, and how many words an answer.
 pub const HINTS: usize = 2048;
 
 pub const ANSWER: usize = 20;
 
-// What became of a call: done, accepted or refused; or the lent words are too few or no month's, the hints or the answer's words are too few,
-// or the bytes are no call, and then nothing is changed.
-#[derive(Clone, Copy)]
-pub enum Called {
-    Done,
+// Why a call is not made: the lent words are too few or no month's, the hints or the answer's words are too few, or the bytes are no call.
+// Nothing is changed then.
+#[derive(Clone, Copy, PartialEq, Eq, Debug)]
+pub enum CallError {
     WordsShort,
     NoMonth,
     HintsShort,
@@ -62,8 +61,10 @@ pub fn fresh(words: &mut [u32]) -> bool
 pub fn is_call(bytes: &[u8]) -> bool
     ensures { result ≡ is_call bytes.now }
 {
-    let size = call_blocks::size(bytes);
-    (size != 0) & (size == call_blocks::count(bytes)) & (bytes.len() % 4 == 0)
+    match call_blocks::size(bytes) {
+        Some(size) => (size == call_blocks::count(bytes)) & (bytes.len() % 4 == 0),
+        None => false,
+    }
 }
 
 // The answer of a call that shows nothing, by the refusal's number, or 0.
@@ -95,35 +96,22 @@ fn steps(bytes: &[u8], i: usize) -> Steps
     words::to_steps(word(bytes, i))
 }
 
-// Fields that say no event.
-fn no_event() -> Fields
-    ensures { result.kind ≡ 0 }
-{
-    Fields {
-        kind: 0,
-        t: Millis(0),
-        id: 0,
-        price: Steps(0),
-        volume: Contracts(0),
-    }
-}
-
 // An add's fields; another side than buy or sell is no event.
-fn add_in(bytes: &[u8]) -> Fields
+fn add_in(bytes: &[u8]) -> Option<Fields>
     requires { length bytes.now ≡ 24 }
-    ensures { 0 < result.kind → SaysAdd (words_in bytes.now) result }
+    ensures { IfSome result (SaysAdd (words_in bytes.now)) }
 {
     let side = word(bytes, 3);
     if (side == 1) | (side == 2) {
-        return Fields {
+        return Some(Fields {
             kind: side,
             t: Millis(word(bytes, 1)),
             id: word(bytes, 2),
             price: steps(bytes, 4),
             volume: Contracts(word(bytes, 5)),
-        };
+        });
     }
-    no_event()
+    None
 }
 
 fn amend_in(bytes: &[u8]) -> Fields
@@ -178,31 +166,31 @@ fn tick_in(bytes: &[u8]) -> Fields
     }
 }
 
-// The fields of the event that is all these bytes say; those of none where they say something else, which `other` looks at.
-fn event_in(bytes: &[u8]) -> Fields
-    ensures { 0 < result.kind → SaysBlock bytes.now result }
+// The fields of the event that is all these bytes say; none where they say something else, which `other` looks at.
+fn event_in(bytes: &[u8]) -> Option<Fields>
+    ensures { IfSome result (SaysBlock bytes.now) }
 {
     let n = bytes.len();
     if n < 8 {
-        return no_event();
+        return None;
     }
     let kind = word(bytes, 0);
     if (kind == 3) & (n == 20) {
-        return amend_in(bytes);
+        return Some(amend_in(bytes));
     }
     if (kind == 6) & (n == 8) {
-        return tick_in(bytes);
+        return Some(tick_in(bytes));
     }
     if (kind == 2) & (n == 24) {
         return add_in(bytes);
     }
     if (kind == 4) & (n == 12) {
-        return cancel_in(bytes);
+        return Some(cancel_in(bytes));
     }
     if (kind == 5) & (n == 16) {
-        return deal_in(bytes);
+        return Some(deal_in(bytes));
     }
-    no_event()
+    None
 }
 
 // An event, in place.
@@ -223,8 +211,8 @@ fn look(words: &[u32], day: u32, expiry: u32, quantum: u32, answer: &mut [u32])
 {
     let looked = month_in_place::look(words, day, expiry, quantum);
     match looked {
-        Looked::Found(view) => answer_words::put_cell(view, answer),
-        Looked::Refused(r) => answer_words::put_refused(rules::number(r), answer),
+        Ok(view) => answer_words::put_cell(view, answer),
+        Err(r) => answer_words::put_refused(u32::from(r), answer),
     }
 }
 
@@ -235,8 +223,8 @@ fn ask(words: &[u32], hints: &mut [u8], a: Amendment, answer: &mut [u32])
 {
     let asked = month_in_place::ask(words, hints, a);
     match asked {
-        Asked::Shown(preview) => answer_words::put_asked(preview, answer),
-        Asked::Refused(r) => answer_words::put_refused(rules::number(r), answer),
+        Ok(preview) => answer_words::put_asked(preview, answer),
+        Err(r) => answer_words::put_refused(u32::from(r), answer),
     }
 }
 
@@ -247,8 +235,8 @@ fn outlook(words: &[u32], answer: &mut [u32])
 {
     let seen = quanta_in_place::outlook(words);
     match seen {
-        OutlookAnswer::Shown(outlook) => answer_words::put_outlook(outlook, answer),
-        OutlookAnswer::Refused(r) => answer_words::put_refused(rules::number(r), answer),
+        Ok(outlook) => answer_words::put_outlook(outlook, answer),
+        Err(r) => answer_words::put_refused(u32::from(r), answer),
     }
 }
 
@@ -289,7 +277,8 @@ fn event(words: &mut [u32], hints: &mut [u8], e: Event) -> u32
     month_in_place::send(words, hints, f)
 }
 
-// A call that changes the month and shows nothing: the refusal's number, or 0. Of a call that shows something it does nothing.
+// A call that changes the month and shows nothing: the refusal's number, or 0. One arm a call, since each takes other arguments and other lent
+// buffers: as closures in a table they would be no plainer. Of a call that shows something it does nothing.
 fn change(words: &mut [u32], hints: &mut [u8], bytes: &[u8], said: Decoded) -> u32
     requires { HoldsMonth words.old × (2464 ≤ length words.old) × (length hints.old ≡ 2048) }
     ensures { is_shown said ≡ false → ChangesMonth words.old (call_with (words_in bytes.now) said) words.new result × LeavesLent words.old (call_with (words_in bytes.now) said) hints.old hints.new }
@@ -344,30 +333,34 @@ fn other(words: &mut [u32], hints: &mut [u8], bytes: &[u8], answer: &mut [u32])
 // One call, on the month whose words these are. The hints only say where an id was last found: they may contain anything, and nothing that
 // is answered or left in the words depends on it. A refused call leaves them; what an accepted call leaves in the first 2,048 bytes
 // is free, and the bytes after these never change.
-pub fn call(words: &mut [u32], hints: &mut [u8], bytes: &[u8], answer: &mut [u32]) -> Called
+pub fn call(
+    words: &mut [u32],
+    hints: &mut [u8],
+    bytes: &[u8],
+    answer: &mut [u32],
+) -> Result<(), CallError>
     requires { 2464 ≤ length words.old → may_be_month words.old ≡ true → HoldsMonth words.old }
     ensures { Calling words.old hints.old answer.old bytes.now words.new hints.new answer.new result }
 {
     if words.len() < MONTH_WORDS {
-        return Called::WordsShort;
+        return Err(CallError::WordsShort);
     }
     if !month_in_place::may_be_month(words) {
-        return Called::NoMonth;
+        return Err(CallError::NoMonth);
     }
     if hints.len() < HINTS {
-        return Called::HintsShort;
+        return Err(CallError::HintsShort);
     }
     if answer.len() < ANSWER {
-        return Called::AnswerShort;
+        return Err(CallError::AnswerShort);
     }
-    let f = event_in(bytes);
-    if 0 < f.kind {
+    if let Some(f) = event_in(bytes) {
         send(words, &mut hints[0..2048], f, &mut answer[0..20]);
-        return Called::Done;
+        return Ok(());
     }
     if !is_call(bytes) {
-        return Called::NoCall;
+        return Err(CallError::NoCall);
     }
     other(words, &mut hints[0..2048], bytes, answer);
-    Called::Done
+    Ok(())
 }

@@ -1,42 +1,46 @@
-// What several crates compute with: the lesser and the greater of two numbers, both of two tests, a number in a wider type, and sums that
-// fit. They are here once, each with its whole answer, so that no crate proves them again.
+// Sums, differences and products of words that fit in a word; and what some crates still call in place of std.
+//
+// Of words that a call wrote they always do. `a + b` would let the compiler assume it, and with other words, which a C caller may lend, the
+// compiled code would be undefined. These wrap: the same for sums that fit, and defined for the others. They are functions, and not std's
+// `wrapping_` methods at each place, since their contracts are the plain sum, difference and product.
 #![tactic(auto)]
 
-ghost use Rattle.std.specs.Prelude.{◌≡◌, ◌&&◌, ◌+◌, ◌-◌, ◌*◌, ◌%◌, ◌≤◌, ◌<◌, min as lesser, max as greater};
+ghost use Rattle.std.specs.Prelude.{◌≡◌, ◌&&◌, ◌+◌, ◌-◌, ◌*◌, ◌%◌, ◌≤◌, ◌<◌, min as lesser};
 
-// Both tests pass. Neither is left out where the other fails, so there is no branch.
+pub fn sum(a: u32, b: u32) -> u32
+    requires { a + b < 4294967296 }
+    ensures { result ≡ a + b }
+{
+    a.wrapping_add(b)
+}
+
+pub fn difference(a: u32, b: u32) -> u32
+    requires { b ≤ a }
+    ensures { result ≡ a - b }
+{
+    a.wrapping_sub(b)
+}
+
+pub fn product(a: u32, b: u32) -> u32
+    requires { a * b < 4294967296 }
+    ensures { result ≡ a * b }
+{
+    a.wrapping_mul(b)
+}
+
+// ---- std has these: they go as soon as the crates that still call them say it by `&`, `min`, `u64::from`, `as usize` and `as u32`
+
 pub fn both(a: bool, b: bool) -> bool
     ensures { result ≡ (a && b) }
 {
     a & b
 }
 
-pub fn min(a: u32, b: u32) -> u32
-    ensures { result ≡ lesser a b }
-{
-    if a < b {
-        return a;
-    }
-    b
-}
-
-pub fn max(a: u32, b: u32) -> u32
-    ensures { result ≡ greater a b }
-{
-    if a < b {
-        return b;
-    }
-    a
-}
-
 // The lesser of two lengths.
 pub fn min_length(a: usize, b: usize) -> usize
     ensures { result ≡ lesser a b }
 {
-    if a < b {
-        return a;
-    }
-    b
+    a.min(b)
 }
 
 // A word in 64 bits.
@@ -58,40 +62,4 @@ pub fn low(n: u64) -> u32
     ensures { result ≡ n % 4294967296 }
 {
     (n % 4294967296) as u32
-}
-
-// ---- sums that fit
-//
-// Of words that a call wrote they always do. `a + b` would let the compiler assume it, and with other words, which a C caller may lend, the
-// compiled code would be undefined. These are worked out modulo 2^32: the same for sums that fit, and defined for the others.
-
-pub fn sum(a: u32, b: u32) -> u32
-    requires { a + b < 4294967296 }
-    ensures { result ≡ a + b }
-{
-    low(wide(a) + wide(b))
-}
-
-pub fn difference(a: u32, b: u32) -> u32
-    requires { b ≤ a }
-    ensures { result ≡ a - b }
-{
-    low(4294967296 + wide(a) - wide(b))
-}
-
-pub fn product(a: u32, b: u32) -> u32
-    requires { a * b < 4294967296 }
-    ensures { result ≡ a * b }
-{
-    low(wide(a) * wide(b))
-}
-
-// One less, or 0.
-pub fn one_less(n: u32) -> u32
-    ensures { result ≡ n - 1 }
-{
-    if n == 0 {
-        return 0;
-    }
-    n - 1
 }

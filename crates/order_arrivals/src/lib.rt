@@ -49,7 +49,7 @@ pub fn opened(row: Row, spread: SpreadRule) -> [u32; 76]
         five[4],
     ];
     let mut notes = [0u32; 76];
-    lent::copy(&twelve, &mut notes[64..76]);
+    notes[64..76].copy_from_slice(&twelve);
     notes
 }
 
@@ -65,30 +65,16 @@ fn place_in(ids: &[u32], count: u32, id: u32) -> u32
     order_side::scan(&ids[0..to], id)
 }
 
-// What is at a place once another has gone: the next one where the place is not before that, else the same.
-fn kept_or_next(here: u32, next: u32, stays: bool) -> u32
-    ensures { result ≡ (if stays then here else next) }
-{
-    if stays {
-        return here;
-    }
-    next
-}
-
-// What is after a place moves up to it, as `order_side::close_up` does it in three columns, but from the first place on: the same work
+// What is after a place moves up to it, as `order_side::shift` does it in three columns, but from the first place on: the same work
 // wherever the place is, with nothing for the processor to guess.
 fn close_up(ids: &mut [u32], place: u32, last: usize)
     requires { (place ≤ last) × (last < length ids.old) × (last < 64) }
     ensures { ids.new ≡ shifted ids.old place last }
 {
-    let mut n: u32 = 0;
-    let mut i: usize = 0;
-    while i < last {
+    for i in 0..last {
         let here = ids[i];
         let next = ids[i + 1];
-        ids[i] = kept_or_next(here, next, n < place);
-        n += 1;
-        i += 1;
+        ids[i] = if (i as u32) < place { here } else { next };
     }
     ids[last] = 0;
 }
@@ -100,7 +86,7 @@ fn remove(ids: &mut [u32], count: u32, id: u32)
 {
     let found = place_in(ids, count, id);
     let to = order_side::room(count);
-    close_up(ids, numbers::one_less(found), to - 1);
+    close_up(ids, found.saturating_sub(1), to - 1);
 }
 
 // After an accepted event, by the numbers of live orders before and after it: one more is put after the others, one less is removed.

@@ -49,18 +49,15 @@ pub fn room(count: u32) -> usize
     ((count + 7) / 8 * 8) as usize
 }
 
-// n for the first id that is this one, n + 1 for the second ..: as ids are distinct, 1 + the place of the id, or 0.
+// 1 + the place of the id, or 0: ids are distinct, so the places where it is add up to that, with no branch. The clause promises the sum for
+// whatever ids, so this is no `position`; with it jumping sessions take 1,021 instructions a record in place of 1,007 (callgrind).
 pub fn scan(ids: &[u32], id: u32) -> u32
     requires { length ids.now ≤ 64 }
     ensures { result ≡ seen_from 1 id ids.now }
 {
     let mut found: u32 = 0;
-    let mut n: u32 = 1;
-    let mut i: usize = 0;
-    while i < ids.len() {
-        found += best_quote::volume_where(ids[i] == id, n);
-        n += 1;
-        i += 1;
+    for (i, &own) in ids.iter().enumerate() {
+        found += best_quote::volume_where(own == id, i as u32 + 1);
     }
     found
 }
@@ -151,11 +148,8 @@ pub fn shift(column: &mut [u32], place: usize, last: usize)
     requires { (place ≤ last) × (last < length column.old) }
     ensures { column.new ≡ shifted column.old place last }
 {
-    let mut i = place;
-    while i < last {
-        let next = column[i + 1];
-        column[i] = next;
-        i += 1;
+    for i in place..last {
+        column[i] = column[i + 1];
     }
     column[last] = 0;
 }
@@ -167,7 +161,7 @@ pub fn remove(words: &mut [u32], side: Side, place: usize) -> Change
 {
     let order = order_at(words, side, place);
     let held = order.volume;
-    let rest = numbers::one_less(words[COUNT]);
+    let rest = words[COUNT].saturating_sub(1);
     shift(&mut words[IDS..KEYS], place, rest as usize);
     shift(&mut words[KEYS..VOLUMES], place, rest as usize);
     shift(&mut words[VOLUMES..COUNT], place, rest as usize);

@@ -1,5 +1,5 @@
 -- What the functions on the table promise to each other and to those on its events.
-use Rattle.std.specs.Prelude.{ℕ, zero, suc, ◌+◌, ◌*◌, ◌/◌, ◌%◌, ◌≤◌, ◌<◌, ◌≡◌, List, ◌++◌, pos, length, get_or}
+use Rattle.std.specs.Prelude.{ℕ, zero, suc, ◌+◌, ◌*◌, ◌/◌, ◌%◌, ◌≤◌, ◌<◌, ◌≡◌, List, ◌++◌, pos, length, get_or, set}
 use Rattle.rules.specs.declared.Side.{Side}
 use Rattle.rules.specs.declared.Side.TheVariants.{Buy, Sell}
 use Rattle.rules.specs.declared.Order.{Order}
@@ -55,3 +55,14 @@ pub record Placed (table hints : List ℕ) (s : ℕ) : Type 0 where
   pub hinted : length hints ≡ 2048
   pub number : s < 2
   pub few : get_or table (256 * s + 192) 0 ≤ 64
+
+-- ---- the hints
+
+-- the slot where an id was last found, at the id modulo 2,048
+abbrev pub noted : List ℕ → ℕ → ℕ → List ℕ
+noted hints id slot = set hints (id % 2048) slot
+
+-- n orders of a side from a place on, one after the other, each at its own slot
+unfoldable pub rehinted : List ℕ → ℕ → ℕ → ℕ → List ℕ → List ℕ
+rehinted table s place zero hints = hints
+rehinted table s place (suc n) hints = noted (rehinted table s place n hints) (get_or table (256 * s + (place + n)) 0) (64 * s + (place + n))

@@ -9,7 +9,7 @@
 // else rests on the hint; otherwise both sides are scanned without branches.
 #![tactic(auto)]
 
-ghost use Rattle.std.specs.Prelude.{◌≡◌, List, [], ◌&&◌, not, ℕ, ◌≤◌, ◌<◌, eqb, length};
+ghost use Rattle.std.specs.Prelude.{◌≡◌, List, [], ◌&&◌, not, ℕ, ◌+◌, ◌-◌, ◌*◌, ◌≤◌, ◌<◌, eqb, length, get_or};
 ghost use Rattle.rules.specs.declared.Order.{Order};
 ghost use Rattle.rules.specs.declared.Row.{Row};
 ghost use Rattle.rules.specs.declared.SpreadRule.{SpreadRule};
@@ -19,10 +19,10 @@ ghost use Rattle.rules.specs.Quotes.{same, best as bestQuote};
 ghost use Rattle.rules.specs.States.{state_word, orders_state};
 ghost use Rattle.price_keys.specs.Widest.{WidestFor};
 ghost use Rattle.order_table.specs.Table.{table_of, slot_by, slot_in, GoodOrders, Held};
-ghost use Rattle.order_table.specs.Internal.{Numbers, side_at, order_in, Represents, Located, Placed};
+ghost use Rattle.order_table.specs.Internal.{Numbers, side_at, order_in, Represents, Located, Placed, noted, rehinted};
 
 use order_side::{BEST, COUNT, WORDS};
-use rules::{Order, Quote, Side};
+use rules::{Order, Side, Steps};
 
 // The words of the table: the buys', then the sells'.
 const TABLE: usize = 512;
@@ -32,7 +32,7 @@ const HINTS: u32 = 2048;
 
 // ---- sides and slots
 
-// Buys are 0, sells 1.
+// Buys are 0, sells 1: by this number the words of a side are found.
 pub fn side_number(side: Side) -> usize
     ensures { Numbers side result }
 {
@@ -68,7 +68,8 @@ pub fn on_other_side(table: &[u32], side: Side, id: u32) -> bool
     0 < order_side::located(&table[WORDS * s..WORDS * s + WORDS], id)
 }
 
-// The slot of what the scans of both sides found, or 128; buys have 0 to 63, sells 64 to 127.
+// The slot of what the scans of both sides found, or 128; buys have 0 to 63, sells 64 to 127. A slot is a number and no Option: with one a
+// record takes 226 instructions in place of 220 in busy sessions, 261 in place of 256 in mixed ones (callgrind).
 fn slot_of(buys: u32, sells: u32) -> usize
     ensures { result ≡ slot_by buys sells }
 {
@@ -103,6 +104,7 @@ fn names(word: u32, id: u32) -> bool
 // Where an id was last found.
 pub fn note(hints: &mut [u8], id: u32, slot: usize)
     requires { (length hints.old ≡ 2048) × (slot ≤ 128) }
+    ensures { hints.new ≡ noted hints.old id slot }
 {
     hints[(id % HINTS) as usize] = slot as u8;
 }
@@ -124,15 +126,14 @@ pub fn find(table: &[u32], hints: &[u8], id: u32) -> usize
     )
 }
 
-// The orders from a place on are where they now stand.
+// A side's orders from a place on are where they are now.
 pub fn rehint(table: &[u32], hints: &mut [u8], s: usize, place: usize)
     requires { Placed table.now hints.old s }
+    ensures { hints.new ≡ rehinted table.now s place (get_or table.now (256 * s + 192) 0 - place) hints.old }
 {
     let to = table[WORDS * s + COUNT] as usize;
-    let mut i = place;
-    while i < to {
+    for i in place..to {
         note(hints, table[WORDS * s + i], 64 * s + i);
-        i += 1;
     }
 }
 
@@ -156,7 +157,7 @@ pub fn state(table: &[u32], widest: u32) -> u32
 }
 
 // The best quote of a side.
-pub fn best(table: &[u32], side: Side) -> Quote
+pub fn best(table: &[u32], side: Side) -> Option<Steps>
     requires { Held table.now }
     ensures { (minimum : ℕ) (live : List Order) → GoodOrders live → table.now ≡ table_of minimum live → result ≡ bestQuote side minimum live }
 {

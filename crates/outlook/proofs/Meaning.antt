@@ -1,4 +1,5 @@
 -- What `rest` and `lost` say of the other answers.
+use Rattle.std.proofs.Common.{Some}
 use Prim.Native.Nat.{ℕ, ◌-◌, ◌*◌, ◌≤◌}
 use native.Mathlib.Nat.{mul-le-mul}
 use native.Mathlib.Omega.{arith}
@@ -11,7 +12,6 @@ use Rattle.rules.specs.declared.Row.{Row}
 use Rattle.rules.specs.declared.SpreadRule.{SpreadRule}
 use Rattle.rules.specs.declared.Opening.{Opening}
 use Rattle.rules.specs.declared.Event.{Event}
-use Rattle.rules.specs.declared.Possible.TheVariants as possible
 use Rattle.rules.specs.Terms.{Terms, paper}
 use Rattle.rules.specs.Rows.{good_row_for}
 use Rattle.rules.specs.Orders.{live, present}
@@ -32,14 +32,14 @@ use Rattle.outlook.proofs.Outlooks.{latest_is}
 -- ---- rest: `by` is L
 
 module _ (terms : Terms) (row : Row) (opening : Opening) (es : List Event) (inside : present es ≤ row.length.0) where
-  pub rest_by : (outlook_of terms row opening es).rest ≡ true → (outlook_of terms row opening es).by ≡ possible.At row.length
+  pub rest_by : (outlook_of terms row opening es).rest ≡ true → (outlook_of terms row opening es).by ≡ Some row.length
   unfolding outlook_of latest_rest may_so
   rest_by h =
       latest-at (may_so terms row opening es) (present es) (row.length.0 - present es) row.length.0 inside (omega arith)
       (and (ap (λ (b : Bool). b || can_keep row opening.spread) (eq-eqb row.length.0 row.length.0 refl)) h)
       (λ m l u. absurd (omega arith))
 
-  pub by_rest : (outlook_of terms row opening es).by ≡ possible.At row.length → (outlook_of terms row opening es).rest ≡ true
+  pub by_rest : (outlook_of terms row opening es).by ≡ Some row.length → (outlook_of terms row opening es).rest ≡ true
   unfolding outlook_of latest_rest may_so
   by_rest e =
       let found = subst (LatestPassing (may_so terms row opening es) (present es) (row.length.0 - present es)) e

@@ -1,17 +1,17 @@
 -- What the fields of the duty and the clock give is the outlook of the definition.
-use Rattle.std.specs.Prelude.{if◌then◌else◌}
+use Rattle.std.specs.Prelude.{if◌then◌else◌, Option}
 use Prim.Native.Nat.{ℕ, ◌-◌, ◌≤◌}
 use native.Mathlib.Omega.{arith}
 use mathlib.Core.Path.{◌≡◌, sym, ap, ◌∙◌}
 use mathlib.Core.List.{List}
 use mathlib.Core.Bool.{Bool, ◌&&◌, ◌||◌}
 use lib.Dec.{leb, eqb}
+use Rattle.rules.specs.declared.Millis.{Millis}
 use Rattle.rules.specs.declared.Row.{Row}
 use Rattle.rules.specs.declared.Opening.{Opening}
 use Rattle.rules.specs.declared.Event.{Event}
 use Rattle.rules.specs.declared.Cell.{Cell}
 use Rattle.rules.specs.declared.CellView.{CellView}
-use Rattle.rules.specs.declared.Possible.{Possible}
 use Rattle.rules.specs.declared.LapsesLeft.{LapsesLeft}
 use Rattle.rules.specs.declared.Outlook.{Outlook}
 use Rattle.rules.specs.Terms.{paper}
@@ -33,7 +33,7 @@ use Rattle.outlook.proofs.Endings.{can_is, begins_now, resting_cell, resting_is,
 
 -- ---- as it is worked out
 
-abbrev pub by_worked : Duty → Clock → ℕ → Bool → Cell → Cell → Possible
+abbrev pub by_worked : Duty → Clock → ℕ → Bool → Cell → Cell → Option Millis
 by_worked duty clock share can resting keeping =
     by_of (cell_met paper resting) (can && cell_met paper keeping) (within_lapse_limit resting.allowed resting.lapses) clock.time duty.length
     (need_of paper clock.kept.0 duty.length.0 share)
@@ -165,7 +165,7 @@ module _ {duty : Duty} {clock : Clock} {share allowed : ℕ} {resting keeping : 
       ≡ by_worked duty clock share (leb 1 duty.widest) (ending_cell duty clock 0 share allowed) (ending_cell duty clock 1 share allowed)
   by_called = λ i. by_of (met_resting i) (able i) (waiting i) clock.time duty.length (c.need_is i)
 
-  pub called : (left : ℕ) (by fully : Possible) (left-lapses : LapsesLeft) (lost : Bool) (weight : ℕ)
+  pub called : (left : ℕ) (by fully : Option Millis) (left-lapses : LapsesLeft) (lost : Bool) (weight : ℕ)
       → left ≡ duty.length.0 - clock.time.0
       → by ≡ by_of resting.met possible waits clock.time duty.length need
       → fully ≡ full_of full left within (leb 1 duty.widest)

@@ -1,5 +1,5 @@
 -- Until when the maker may rest, by numbers: `by_of` is the latest time whose rest leaves a met cell.
-use Rattle.std.specs.Prelude.{if◌then◌else◌}
+use Rattle.std.specs.Prelude.{if◌then◌else◌, None, Some}
 use Prim.Native.Nat.{ℕ, ◌+◌, ◌-◌, ◌≤◌, ◌<◌}
 use native.Mathlib.Omega.{arith}
 use mathlib.Core.Path.{◌≡◌, refl, sym, ap, ◌∙◌}
@@ -7,7 +7,6 @@ use mathlib.Core.Bool.{Bool, true, false, true≢false, not, ◌&&◌, ◌||◌,
 use lib.Dec.{leb, ltb, eqb}
 use borrow.Author.Tests.{leb-true, leb-false, le-leb, lt-leb, lt-ltb, le-ltb, ltb-true, eqb-true, eq-eqb}
 use Rattle.rules.specs.declared.Millis.{Millis}
-use Rattle.rules.specs.declared.Possible.TheVariants.{Never, At}
 use Rattle.rules.specs.Terms.{paper}
 use Rattle.rules.specs.Units.{millis}
 use Rattle.rules.specs.Lapses.{within_lapse_limit}
@@ -71,19 +70,19 @@ module _ (kept lapses length share allowed t : ℕ) (can begins : Bool) where
     to_end : t + (length - t) ≡ length
     to_end = omega arith
 
-    by_end : verdict_till length ≡ true → latest test_till t (length - t) ≡ At (millis length)
+    by_end : verdict_till length ≡ true → latest test_till t (length - t) ≡ Some (millis length)
     by_end v =
         latest-at test_till t (length - t) length inside (omega arith) (and (ap (λ (b : Bool). b || can) (eq-eqb length length refl)) v)
         (λ m l u. absurd (omega arith))
 
-    by_none : verdict_till length ≡ false → can ≡ false → latest test_till t (length - t) ≡ Never
+    by_none : verdict_till length ≡ false → can ≡ false → latest test_till t (length - t) ≡ None
     by_none v e = latest-none test_till t (length - t) (λ s l u. go s (eqb s length) refl)
       where
         go : (s : ℕ) (b : Bool) → eqb s length ≡ b → (b || can) && verdict_till s ≡ false
         go s true f = ap verdict_till (eqb-true s length f) ∙ v
         go s false f = ap (λ (c : Bool). c && verdict_till s) e
 
-    by_lost : verdict_till t ≡ false → latest test_till t (length - t) ≡ Never
+    by_lost : verdict_till t ≡ false → latest test_till t (length - t) ≡ None
     by_lost v =
         latest-none test_till t (length - t)
         (λ s l u. ap (λ (b : Bool). (eqb s length || can) && b) (not_so (verdict_till s) (verdict_till t) (verdict_earlier t s l) v)
@@ -97,7 +96,7 @@ module _ (kept lapses length share allowed t : ℕ) (can begins : Bool) where
 
     -- no more than what is left is needed, and the lapse is none too many
     by_needed : can ≡ true → verdict_till t ≡ true → within_lapse_limit allowed (lapses + more_till length) ≡ true
-        → latest test_till t (length - t) ≡ At (millis (length - need_of paper kept length share))
+        → latest test_till t (length - t) ≡ Some (millis (length - need_of paper kept length share))
     by_needed e v w =
         let need = need_of paper kept length share in
         let enough = leb-true need (length - t) (sym (met_till t) ∙ (both _ (within_lapse_limit allowed (lapses + more_till t)) v).0) in
@@ -111,7 +110,7 @@ module _ (kept lapses length share allowed t : ℕ) (can begins : Bool) where
 
     -- the lapse is one too many
     by_now : can ≡ true → verdict_till t ≡ true → within_lapse_limit allowed (lapses + more_till length) ≡ false
-        → latest test_till t (length - t) ≡ At (millis t)
+        → latest test_till t (length - t) ≡ Some (millis t)
     by_now e v w =
         latest-at test_till t (length - t) t (omega arith) (omega arith) (passes e t v)
         (λ m l u. fails m

@@ -1,9 +1,7 @@
 -- What the functions of an outlook promise to each other, by the fields of the clock.
-use Rattle.std.specs.Prelude.{ℕ, ◌≤◌, ◌-◌, Bool, true, ◌&&◌, ◌||◌, leb, eqb, if◌then◌else◌}
+use Rattle.std.specs.Prelude.{ℕ, ◌≤◌, ◌-◌, Bool, true, ◌&&◌, ◌||◌, leb, eqb, if◌then◌else◌, None, Option, Some}
 use Rattle.rules.specs.declared.Millis.{Millis}
 use Rattle.rules.specs.declared.Cell.{Cell}
-use Rattle.rules.specs.declared.Possible.{Possible}
-use Rattle.rules.specs.declared.Possible.TheVariants.{Never, At}
 use Rattle.rules.specs.Units.{millis, kopecks}
 use Rattle.clock.specs.declared.Duty.{Duty}
 use Rattle.clock.specs.declared.Clock.{Clock}
@@ -46,11 +44,11 @@ ending_cell duty clock keeps share allowed = cell_at duty (ran_on (with_keeps cl
 abbrev pub reached : ℕ → ℕ → Bool → Bool → Bool
 reached n left within can = leb n left && within && (eqb n 0 || can)
 
-abbrev pub full_of : ℕ → ℕ → Bool → Bool → Possible
-full_of n left within can = if reached n left within can then At (millis n) else Never
+abbrev pub full_of : ℕ → ℕ → Bool → Bool → Option Millis
+full_of n left within can = if reached n left within can then Some (millis n) else None
 
 -- until when the maker may rest: to the end, where resting leaves a met cell; not at all, where keeping everything does not; else until what
 -- is left is needed, or not beyond the present where the lapse is one too many
-abbrev pub by_of : Bool → Bool → Bool → Millis → Millis → ℕ → Possible
+abbrev pub by_of : Bool → Bool → Bool → Millis → Millis → ℕ → Option Millis
 by_of rest possible waits now end need =
-    if rest then At end else (if possible then (if waits then At (millis (end.0 - need)) else At now) else Never)
+    if rest then Some end else (if possible then (if waits then Some (millis (end.0 - need)) else Some now) else None)

@@ -13,7 +13,7 @@ ghost use Rattle.outlook.specs.Represents.{Represents, Outlooked};
 ghost use Rattle.outlook.specs.Internal.{Sound, ending_cell, reached, full_of, by_of};
 
 use clock::{Clock, Duty};
-use rules::{Cell, CellView, Kopecks, LapsesLeft, Millis, Outlook, Possible};
+use rules::{Cell, CellView, Kopecks, LapsesLeft, Millis, Outlook};
 
 // The cell at the quantum's end with its verdict, if the quotes keep from now on (1) or do not (0).
 fn ending(duty: Duty, clock: Clock, keeps: u32, share: u32, allowed: u32) -> CellView
@@ -21,15 +21,7 @@ fn ending(duty: Duty, clock: Clock, keeps: u32, share: u32, allowed: u32) -> Cel
     ensures { result ≡ view_of paper (ending_cell duty clock keeps share allowed) }
 {
     let length = duty.length;
-    let time = clock.time;
-    let kept = clock.kept;
-    let now = Clock {
-        time,
-        kept,
-        keeps,
-        lapses: clock.lapses,
-        last: clock.last,
-    };
+    let now = Clock { keeps, ..clock };
     let end = clock::onward(now, length, 0);
     let total = end.kept;
     verdict::view(Cell {
@@ -44,24 +36,14 @@ fn ending(duty: Duty, clock: Clock, keeps: u32, share: u32, allowed: u32) -> Cel
     })
 }
 
-// a less b, or 0 where b is greater.
-fn less(a: u32, b: u32) -> u32
-    ensures { result ≡ a - b }
-{
-    if a <= b {
-        return 0;
-    }
-    a - b
-}
-
 // How many milliseconds more must be kept for a share in thousandths: the least whole number, so the division rounds up.
 fn needed(kept: Millis, length: Millis, share: u32) -> u32
     requires { share ≤ 1000 }
     ensures { result ≡ need_of paper kept.0 length.0 share }
 {
-    let product = numbers::wide(share) * numbers::wide(length.0);
-    let least = numbers::low((product + 999) / 1000);
-    less(least, kept.0)
+    let product = u64::from(share) * u64::from(length.0);
+    let least = ((product + 999) / 1000) as u32;
+    least.saturating_sub(kept.0)
 }
 
 fn reachable(n: u32, left: Millis, within: bool, can: bool) -> bool
@@ -70,13 +52,13 @@ fn reachable(n: u32, left: Millis, within: bool, can: bool) -> bool
     (n <= left.0) & within & ((n == 0) | can)
 }
 
-fn full(n: u32, left: Millis, within: bool, can: bool) -> Possible
+fn full(n: u32, left: Millis, within: bool, can: bool) -> Option<Millis>
     ensures { result ≡ full_of n left.0 within can }
 {
     if reachable(n, left, within, can) {
-        return Possible::At(Millis(n));
+        return Some(Millis(n));
     }
-    Possible::Never
+    None
 }
 
 fn lapses_left(allowed: u32, lapses: u32) -> LapsesLeft
@@ -95,31 +77,39 @@ fn lapses_left(allowed: u32, lapses: u32) -> LapsesLeft
 fn start(end: Millis, need: u32) -> Millis
     ensures { result.0 ≡ end.0 - need }
 {
-    Millis(less(end.0, need))
+    Millis(end.0.saturating_sub(need))
 }
 
-// Until when the maker may rest. `possible`: keeping everything from now on leaves a met cell; `waits`: the lapse of resting is none too many.
-fn by(rest: bool, possible: bool, waits: bool, now: Millis, end: Millis, need: u32) -> Possible
+// Until when the maker may rest. `possible`: keeping everything from now on leaves a met cell; `waits`: the lapse of resting is none too
+// many.
+fn by(
+    rest: bool,
+    possible: bool,
+    waits: bool,
+    now: Millis,
+    end: Millis,
+    need: u32,
+) -> Option<Millis>
     ensures { result ≡ by_of rest possible waits now end need }
 {
     if rest {
-        return Possible::At(end);
+        return Some(end);
     }
     if possible {
         if waits {
-            return Possible::At(start(end, need));
+            return Some(start(end, need));
         }
-        return Possible::At(now);
+        return Some(now);
     }
-    Possible::Never
+    None
 }
 
-fn is_never(p: Possible) -> bool
+fn is_never(p: Option<Millis>) -> bool
     ensures { result ≡ is_never p }
 {
     match p {
-        Possible::Never => true,
-        Possible::At(_) => false,
+        None => true,
+        Some(_) => false,
     }
 }
 
@@ -141,7 +131,7 @@ pub fn of(duty: Duty, clock: Clock, share: u32, allowed: u32) -> Outlook
     let end = duty.length;
     let now = clock.time;
     let kept = clock.kept;
-    let left = Millis(less(end.0, now.0));
+    let left = Millis(end.0.saturating_sub(now.0));
     let can = 1 <= duty.widest;
     let resting = ending(duty, clock, 0, share, allowed);
     let keeping = ending(duty, clock, 1, share, allowed);
@@ -149,7 +139,7 @@ pub fn of(duty: Duty, clock: Clock, share: u32, allowed: u32) -> Outlook
     let need = needed(kept, end, share);
     let within = verdict::within_lapse_limit(allowed, clock.lapses);
     let waits = verdict::within_lapse_limit(allowed, rested.lapses);
-    let possible = numbers::both(can, keeping.met);
+    let possible = can & keeping.met;
     let by = by(resting.met, possible, waits, now, end, need);
     Outlook {
         need: Millis(need),

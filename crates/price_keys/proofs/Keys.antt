@@ -1,5 +1,5 @@
 -- A price in its range and its key: the better price has the greater key, and each determines the other.
-use Rattle.std.specs.Prelude.{if◌then◌else◌}
+use Rattle.std.specs.Prelude.{if◌then◌else◌, None, Option, Some, IfSome}
 use Prim.Native.Nat.{ℕ, zero, suc, ◌+◌, ◌-◌, ◌≤◌, ◌<◌, max}
 use native.Mathlib.Omega.{arith}
 use mathlib.Core.Path.{◌≡◌, refl, sym, ap, ◌∙◌, subst}
@@ -9,8 +9,6 @@ use lib.Dec.{leb}
 use lib.IntN.{ℤ, pos, negsuc}
 use Rattle.rules.specs.declared.Side.{Side}
 use Rattle.rules.specs.declared.Side.TheVariants.{Buy, Sell}
-use Rattle.rules.specs.declared.Quote.{Quote}
-use Rattle.rules.specs.declared.Quote.TheVariants.{Absent, At}
 use Rattle.rules.specs.declared.Steps.{Steps}
 use Rattle.rules.specs.Units.{good_price, steps}
 use Rattle.rules.specs.Quotes.{at_least, better}
@@ -121,14 +119,9 @@ good_price_lem Sell k l m = go (leb k 1000000001) refl
 
 -- ---- quotes
 
--- none, or of a price in its range
-abbrev pub GoodQuote : Quote → Type 0
-GoodQuote Absent = Unit {0}
-GoodQuote (At p) = good_price p.0 ≡ true
-
--- .. as the code's contract says it
-pub say_good : (q : Quote) → GoodQuote q → (p : Steps) → q ≡ At p → good_price p.0 ≡ true
-say_good q h p e = subst GoodQuote e h
+-- none, or of a price in its range, as the code's contract says it
+abbrev pub GoodQuote : Option Steps → Type 0
+GoodQuote quote = IfSome quote (λ p. good_price p.0 ≡ true)
 
 pub good_quote : (s : Side) (k : ℕ) → k ≤ 2000000001 → GoodQuote (quote_at s k)
 good_quote s zero h = tt
@@ -139,32 +132,32 @@ key-quote s zero h = refl
 key-quote s (suc k) h = key_price s (suc k) (omega arith) h
 
 -- the quote of a key that is not 0
-quote_some : (s : Side) (k : ℕ) → 1 ≤ k → quote_at s k ≡ At (steps (price_at s k))
+quote_some : (s : Side) (k : ℕ) → 1 ≤ k → quote_at s k ≡ Some (steps (price_at s k))
 quote_some s zero h = absurd (omega (arith, h))
 quote_some s (suc k) h = refl
 
-pub quote-key : (s : Side) (q : Quote) → GoodQuote q → quote_at s (quote_key s q) ≡ q
-quote-key s Absent h = refl
-quote-key s (At p) h =
-    quote_some s (key_of s p.0) (key_least s p.0 h) ∙ ap (λ (z : ℤ). At (record { 0 = z })) (price_key s p.0 h)
+pub quote-key : (s : Side) (q : Option Steps) → GoodQuote q → quote_at s (quote_key s q) ≡ q
+quote-key s None h = refl
+quote-key s (Some p) h =
+    quote_some s (key_of s p.0) (key_least s p.0 h) ∙ ap (λ (z : ℤ). Some (record { 0 = z })) (price_key s p.0 h)
 
 -- the better of two has the greater key
-better-key : (s : Side) (x y : Quote) → GoodQuote x → GoodQuote y → quote_key s (better s x y) ≡ max (quote_key s x) (quote_key s y)
-better-key s Absent y h k = omega arith
-better-key s (At p) Absent h k = omega arith
-better-key s (At p) (At q) h k = rw (key_order s p.0 q.0 h k) (go (leb (key_of s q.0) (key_of s p.0)) refl)
+better-key : (s : Side) (x y : Option Steps) → GoodQuote x → GoodQuote y → quote_key s (better s x y) ≡ max (quote_key s x) (quote_key s y)
+better-key s None y h k = omega arith
+better-key s (Some p) None h k = omega arith
+better-key s (Some p) (Some q) h k = rw (key_order s p.0 q.0 h k) (go (leb (key_of s q.0) (key_of s p.0)) refl)
   where
     go : (t : Bool) → leb (key_of s q.0) (key_of s p.0) ≡ t
-        → quote_key s (if t then At p else At q) ≡ max (key_of s p.0) (key_of s q.0)
+        → quote_key s (if t then Some p else Some q) ≡ max (key_of s p.0) (key_of s q.0)
     go true e = omega (arith, leb-true (key_of s q.0) (key_of s p.0) e)
     go false e = omega (arith, leb-false (key_of s q.0) (key_of s p.0) e)
 
-better_good : (s : Side) (x y : Quote) → GoodQuote x → GoodQuote y → GoodQuote (better s x y)
-better_good s Absent y h k = k
-better_good s (At p) Absent h k = h
-better_good s (At p) (At q) h k = go (at_least s p.0 q.0)
+better_good : (s : Side) (x y : Option Steps) → GoodQuote x → GoodQuote y → GoodQuote (better s x y)
+better_good s None y h k = k
+better_good s (Some p) None h k = h
+better_good s (Some p) (Some q) h k = go (at_least s p.0 q.0)
   where
-    go : (t : Bool) → GoodQuote (if t then At p else At q)
+    go : (t : Bool) → GoodQuote (if t then Some p else Some q)
     go true = h
     go false = k
 

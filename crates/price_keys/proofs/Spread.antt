@@ -1,5 +1,5 @@
 -- The spread test by its limit, and of two best keys, is document 01's.
-use Rattle.std.specs.Prelude.{if◌then◌else◌}
+use Rattle.std.specs.Prelude.{if◌then◌else◌, None, Option, Some}
 use Prim.Native.Nat.{ℕ, zero, suc, ◌+◌, ◌-◌, ◌*◌, ◌/◌, ◌≤◌, ◌<◌, max}
 use native.Mathlib.Nat.{le-div_iff_mul-le, div-lt_iff_lt-mul}
 use native.Mathlib.Omega.{arith}
@@ -9,10 +9,9 @@ use borrow.Author.Tests.{leb-true, leb-false, ltb-true, ltb-false, le-leb, lt-le
 use lib.Dec.{leb, ltb, eqb}
 use lib.IntN.{ℤ, pos, negsuc, neg_ℤ, sub_ℕ, ◌*ℤ◌}
 use lib.Signed.{le_z}
+use Rattle.rules.specs.declared.Steps.{Steps}
 use Rattle.rules.specs.declared.Side.{Side}
 use Rattle.rules.specs.declared.Side.TheVariants.{Buy, Sell}
-use Rattle.rules.specs.declared.Quote.{Quote}
-use Rattle.rules.specs.declared.Quote.TheVariants.{Absent, At}
 use Rattle.rules.specs.declared.Row.{Row}
 use Rattle.rules.specs.declared.SpreadRule.{SpreadRule}
 use Rattle.rules.specs.Units.{good_price}
@@ -108,16 +107,16 @@ gap-least bid ask h k = one_or_more (gap bid ask) ∙ ap not (gap-keys bid ask 0
         turn true e = sym (lt-leb n 2000000001 (omega (arith, leb-true 2000000002 (n + 0) e)))
         turn false e = sym (le-leb n 2000000001 (omega (arith, leb-false 2000000002 (n + 0) e)))
 
-pub keys_law : (row : Row) (sp : SpreadRule) (widest : ℕ) → WidestFor row sp widest → (bid ask : Quote) → GoodQuote bid → GoodQuote ask
+pub keys_law : (row : Row) (sp : SpreadRule) (widest : ℕ) → WidestFor row sp widest → (bid ask : Option Steps) → GoodQuote bid → GoodQuote ask
     → keys_keep widest (quote_key Buy bid) (quote_key Sell ask) ≡ quotes_keep row sp bid ask
 unfolding keys_keep quotes_keep
-keys_law row sp widest law Absent ask h k = refl
-keys_law row sp widest law (At bid) Absent h k = go (not (eqb (key_of Buy bid.0) 0))
+keys_law row sp widest law None ask h k = refl
+keys_law row sp widest law (Some bid) None h k = go (not (eqb (key_of Buy bid.0) 0))
   where
     go : (t : Bool) → t && false && leb (key_of Buy bid.0 + 0) 2000000001 && leb 2000000002 (key_of Buy bid.0 + 0 + widest) ≡ false
     go true = refl
     go false = refl
-keys_law row sp widest law (At bid) (At ask) h k =
+keys_law row sp widest law (Some bid) (Some ask) h k =
     let there : eqb (key_of Buy bid.0) 0 ≡ false = ne_eqb (key_of Buy bid.0) 0 (λ e. omega (arith, e, key_least Buy bid.0 h)) in
     let here : eqb (key_of Sell ask.0) 0 ≡ false = ne_eqb (key_of Sell ask.0) 0 (λ e. omega (arith, e, key_least Sell ask.0 k)) in
     rw (there, here, sym (gap-least bid.0 ask.0 h k), sym (gap-keys bid.0 ask.0 widest h k))
@@ -136,13 +135,13 @@ module _ (row : Row) (sp : SpreadRule) (widest : ℕ) (law : WidestFor row sp wi
   there_not : (s : Side) (p : ℤ) → good_price p ≡ true → eqb (key_of s p) 0 ≡ false
   there_not s p h = ne_eqb (key_of s p) 0 (λ e. omega (arith, e, key_least s p h))
 
-  pub state_law : (bid ask : Quote) → GoodQuote bid → GoodQuote ask
+  pub state_law : (bid ask : Option Steps) → GoodQuote bid → GoodQuote ask
       → keys_state widest (quote_key Buy bid) (quote_key Sell ask) ≡ state_word (quotes_state row sp bid ask)
   unfolding keys_state quotes_state
-  state_law Absent Absent h k = refl
-  state_law Absent (At ask) h k = rw (there_not Sell ask.0 k) refl
-  state_law (At bid) Absent h k = rw (there_not Buy bid.0 h) refl
-  state_law (At bid) (At ask) h k =
+  state_law None None h k = refl
+  state_law None (Some ask) h k = rw (there_not Sell ask.0 k) refl
+  state_law (Some bid) None h k = rw (there_not Buy bid.0 h) refl
+  state_law (Some bid) (Some ask) h k =
       rw (there_not Buy bid.0 h, there_not Sell ask.0 k, sym (gap-least bid.0 ask.0 h k), sym (gap-keys bid.0 ask.0 widest h k), law (gap bid.0 ask.0))
       (both-state (le_z (pos 1) (gap bid.0 ask.0)) (spread_within row sp (gap bid.0 ask.0)))
 

@@ -1,9 +1,8 @@
 -- A price as a key: a natural number that is the greater, the better the price. 0 is the key of no price.
-use Rattle.std.specs.Prelude.{ℕ, zero, suc, ◌+◌, ◌-◌, leb, ℤ, pos, negsuc, if◌then◌else◌}
+use Rattle.std.specs.Prelude.{ℕ, zero, suc, ◌+◌, ◌-◌, leb, ℤ, pos, negsuc, if◌then◌else◌, None, Option, Some}
+use Rattle.rules.specs.declared.Steps.{Steps}
 use Rattle.rules.specs.declared.Side.{Side}
 use Rattle.rules.specs.declared.Side.TheVariants.{Buy, Sell}
-use Rattle.rules.specs.declared.Quote.{Quote}
-use Rattle.rules.specs.declared.Quote.TheVariants.{Absent, At}
 use Rattle.rules.specs.declared.Order.{Order}
 use Rattle.rules.specs.Units.{steps}
 
@@ -23,10 +22,10 @@ abbrev pub key_in : Side → Order → ℕ
 key_in side o = key_of side o.price.0
 
 -- the key of a quote, and the quote of a key
-abbrev pub quote_key : Side → Quote → ℕ
-quote_key side Absent = 0
-quote_key side (At p) = key_of side p.0
+abbrev pub quote_key : Side → Option Steps → ℕ
+quote_key side None = 0
+quote_key side (Some p) = key_of side p.0
 
-abbrev pub quote_at : Side → ℕ → Quote
-quote_at side zero = Absent
-quote_at side (suc k) = At (steps (price_at side (suc k)))
+abbrev pub quote_at : Side → ℕ → Option Steps
+quote_at side zero = None
+quote_at side (suc k) = Some (steps (price_at side (suc k)))

@@ -6,15 +6,12 @@
 // keys agrees with it.
 #![tactic(auto)]
 
-ghost use Rattle.std.specs.Prelude.{◌≡◌, true, ◌≤◌, pos, eqb, if◌then◌else◌};
-ghost use Rattle.std.specs.Int.Signed.{le_z};
-ghost use Rattle.rules.specs.declared.Steps.{Steps};
-ghost use Rattle.rules.specs.declared.Quote.TheVariants.{At};
+ghost use Rattle.std.specs.Prelude.{◌≡◌, true, ◌≤◌, eqb, IfSome, if◌then◌else◌};
 ghost use Rattle.rules.specs.Units.{steps, good_price};
 ghost use Rattle.price_keys.specs.Widest.{positive_part, widest_of, keys_keep, keys_state};
 ghost use Rattle.price_keys.specs.Keys.{key_of, price_at, quote_key, quote_at};
 
-use rules::{Quote, Side, Steps};
+use rules::{Side, Steps};
 
 // ---- keys
 
@@ -41,43 +38,34 @@ pub fn price_at(side: Side, key: u32) -> Steps
 }
 
 // The quote of a key; 0 is the key of none.
-pub fn quote_at(side: Side, key: u32) -> Quote
+pub fn quote_at(side: Side, key: u32) -> Option<Steps>
     requires { key ≤ 2000000001 }
     ensures { result ≡ quote_at side key }
 {
     if key == 0 {
-        return Quote::Absent;
+        return None;
     }
-    Quote::At(price_at(side, key))
+    Some(price_at(side, key))
 }
 
 // The key of a quote.
-pub fn quote_key(side: Side, quote: Quote) -> u32
-    requires { (p : Steps) → quote ≡ At p → good_price p.0 ≡ true }
+pub fn quote_key(side: Side, quote: Option<Steps>) -> u32
+    requires { IfSome quote (λ p. good_price p.0 ≡ true) }
     ensures { result ≡ quote_key side quote }
 {
     match quote {
-        Quote::Absent => 0,
-        Quote::At(p) => key_of(side, p),
+        None => 0,
+        Some(p) => key_of(side, p),
     }
 }
 
 // ---- the spread test
 
-fn not_negative(p: Steps) -> bool
-    ensures { result ≡ le_z (pos 0) p.0 }
-{
-    0 <= p.0
-}
-
 // The price, or 0 where it is negative.
 fn positive_part(p: Steps) -> u32
     ensures { result ≡ positive_part p.0 }
 {
-    if not_negative(p) {
-        return p.0 as u32;
-    }
-    0
+    p.0.max(0) as u32
 }
 
 // The greatest D that the spread test takes, fixed once for a quantum: max(b, a × max(SP, 0) / 100,000).
@@ -87,20 +75,17 @@ pub fn widest_for_price(a: u32, b: u32, sp: Steps) -> u32
 {
     let price = positive_part(sp);
     let part = (a as u64 * price as u64 / 100000) as u32;
-    if part <= b {
-        return b;
-    }
-    part
+    part.max(b)
 }
 
-// Whether two best keys keep the quote, 1 or 0: both are there, and D is 1 or more and at most the limit. D is 2,000,000,002 less
+// Whether two best keys keep the quote: both are there, and D is 1 or more and at most the limit. D is 2,000,000,002 less
 // both keys.
-pub fn keys_keep(widest: u32, bid: u32, ask: u32) -> u32
-    ensures { result ≡ (if keys_keep widest bid ask then 1 else 0) }
+pub fn keys_keep(widest: u32, bid: u32, ask: u32) -> bool
+    ensures { result ≡ keys_keep widest bid ask }
 {
     let there = (bid != 0) & (ask != 0);
     let both = bid as u64 + ask as u64;
-    (there & (both <= 2000000001) & (2000000002 <= both + widest as u64)) as u32
+    there & (both <= 2000000001) & (2000000002 <= both + widest as u64)
 }
 
 // The state's word where there is no best bid.
@@ -113,7 +98,8 @@ fn absent_bid(ask: u32) -> u32
     1
 }
 
-// The word of the state of two best keys: 0 kept, 1 no bid, 2 no ask, 3 neither, 4 locked or crossed, 5 too wide.
+// The word of the state of two best keys, as the views show it to C (a number for that reason, and no enum): 0 kept, 1 no bid, 2 no ask,
+// 3 neither, 4 locked or crossed, 5 too wide.
 pub fn keys_state(widest: u32, bid: u32, ask: u32) -> u32
     ensures { result ≡ keys_state widest bid ask }
 {

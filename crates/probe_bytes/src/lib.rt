@@ -1,25 +1,29 @@
 // The cases of `probe` that read and write bytes: event records (case 3), and FIX messages (cases 9 to 11).
 #![tactic(auto)]
 
-ghost use Rattle.std.specs.Prelude.{◌≡◌, ◌≤◌, length};
+ghost use Rattle.std.specs.Prelude.{◌≡◌};
 ghost use Rattle.lists.specs.Lists.{within};
 
 mod messages;
 
-use console::{field, field_line, text};
-use rules::{Contracts, Event, Millis, RecordRead, Steps};
+use console::{Case, CaseError, Hex};
+use rules::{Contracts, Event, Millis, Steps};
+use std::io;
 
-fn fields(kind: u32, t: Millis, id: u32, p: Steps, volume: Contracts) {
-    field(b"event ", kind);
-    field(b" ", t.0);
-    field(b" ", id);
-    text(b" ");
-    console::price(p);
-    field_line(b" ", volume.0);
+// A record's kind, time, id, price and volume.
+fn fields(
+    rt: &impl Print,
+    kind: u32,
+    t: Millis,
+    id: u32,
+    p: Steps,
+    volume: Contracts,
+) -> io::Result<()> {
+    println!(rt; "event {kind} {} {id} {} {}", t.0, p.0, volume.0)
 }
 
 // Read off the event and not off the written bytes, so that a writer's fault shows against it.
-fn event_line(event: Event) {
+fn event_line(rt: &impl Print, event: Event) -> io::Result<()> {
     match event {
         Event::Add {
             t,
@@ -27,52 +31,42 @@ fn event_line(event: Event) {
             side,
             price,
             volume,
-        } => fields(words::from_side(side), t, id, price, volume),
+        } => fields(rt, words::from_side(side), t, id, price, volume),
         Event::Amend {
             t,
             id,
             price,
             volume,
-        } => fields(3, t, id, price, volume),
-        Event::Cancel { t, id } => fields(4, t, id, Steps(0), Contracts(0)),
-        Event::Deal { t, id, volume } => fields(5, t, id, Steps(0), volume),
-        Event::Tick { t } => fields(6, t, 0, Steps(0), Contracts(0)),
+        } => fields(rt, 3, t, id, price, volume),
+        Event::Cancel { t, id } => fields(rt, 4, t, id, Steps(0), Contracts(0)),
+        Event::Deal { t, id, volume } => fields(rt, 5, t, id, Steps(0), volume),
+        Event::Tick { t } => fields(rt, 6, t, 0, Steps(0), Contracts(0)),
     }
-}
-
-fn bytes_line(bytes: &[u8]) {
-    text(b"bytes");
-    for i in 0..bytes.len() {
-        text(b" ");
-        console::hex(bytes[i]);
-    }
-    text(b"\n");
-}
-
-fn event_lines(event: Event) {
-    event_line(event);
-    let bytes = record::write(event);
-    bytes_line(&bytes);
 }
 
 // `3`, then bytes that begin with a record.
-pub fn record_case(bytes: &[u8]) {
-    let read = record::read(bytes);
-    match read {
-        RecordRead::Read(event) => event_lines(event),
-        RecordRead::Refused(refusal) => field_line(b"refused ", rules::number(refusal)),
+pub fn record_case(rt: &impl Print, bytes: &[u8]) -> io::Result<()> {
+    match record::read(bytes) {
+        Ok(event) => {
+            event_line(rt, event)?;
+            println!(rt; "bytes{}", Hex(&record::write(event)))
+        }
+        Err(refusal) => println!(rt; "refused {}", u32::from(refusal)),
     }
 }
 
 pub fn is_message_kind(kind: u32) -> bool
     ensures { result ≡ within 9 11 kind }
 {
-    messages::is_kind(kind)
+    9 <= kind && kind <= 11
 }
 
-// Whether the input is a case of that kind; where it is, its line is written.
-pub fn message_case(kind: u32, input: &[u8]) -> bool
-    requires { 4 ≤ length input.now }
-{
-    messages::case(kind, input)
+// A case of that kind. The number is the input's, and each arm names its case: an enum between them would name each of them twice more.
+pub fn message_case(rt: &impl Print, kind: u32, case: Case<'_>) -> Result<(), CaseError> {
+    match kind {
+        9 => Ok(messages::read_case(rt, case.rest)?),
+        10 => messages::write_case(rt, case),
+        11 => messages::time_case(rt, case),
+        _ => Err(CaseError::NoCase),
+    }
 }

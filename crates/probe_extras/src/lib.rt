@@ -8,22 +8,19 @@ mod eased;
 mod maker_calls;
 mod safe;
 
-// Whether the input is a case of one of these kinds; where it is, its lines are written.
-pub fn case(kind: u32, input: &[u8]) -> bool {
-    if days::is_kind(kind) {
-        return days::case(kind, input);
+use console::{Case, CaseError};
+
+// A case of that kind. The number is the input's, and each arm names its case: an enum between them would name each of them twice more.
+pub fn case(rt: &impl Print, kind: u32, case: Case<'_>) -> Result<(), CaseError> {
+    match kind {
+        4 => boards::board_case(rt, case),
+        5 => days::day_case(rt, case),
+        6 => eased::row_case(rt, case),
+        7 => maker_calls::standing_case(rt, case),
+        8 => safe::safe_case(rt, case),
+        12 => days::days_case(rt, case),
+        13 => eased::strike_case(rt, case),
+        14 => eased::inside_case(rt, case),
+        _ => Err(CaseError::NoCase),
     }
-    if eased::is_kind(kind) {
-        return eased::case(kind, input);
-    }
-    if kind == 4 {
-        return boards::board_case(input);
-    }
-    if kind == 7 {
-        return maker_calls::standing_case(input);
-    }
-    if kind == 8 {
-        return safe::safe_case(input);
-    }
-    false
 }

@@ -1,134 +1,80 @@
 // Standing of makers: join, change and leave on records and a count that the case gives.
-ghost use Rattle.std.specs.Prelude.{◌+◌, ◌*◌, ◌≤◌, ◌<◌, length};
+ghost use Rattle.std.specs.Prelude.{◌≤◌, ◌<◌, length};
 
-use console::{field, number, text};
-use standing_array::Left;
-use standing_rules::Maker;
+use console::{Case, CaseError};
+use standing_rules::{Call, CallError, Maker};
+use std::io;
 
-fn word(input: &[u8], at: usize) -> u32
-    requires { at + 4 ≤ length input.now }
+// The records of the case, two words each.
+fn records(words: &[u32]) -> [Maker; 512]
+    requires { length words.now ≤ 1024 }
 {
-    words::word_at(input, at)
-}
-
-// The records of the case, two words each, after three words.
-fn records(input: &[u8], size: usize) -> [Maker; 512]
-    requires { (size ≤ 512) × (12 + 8 * size ≤ length input.now) }
-{
-    let mut list = [Maker {
+    let mut records = [Maker {
         number: 0,
         rating: 0,
     }; 512];
-    for i in 0..size {
-        let m = Maker {
-            number: word(input, 12 + 8 * i),
-            rating: word(input, 16 + 8 * i),
+    for (i, pair) in words.chunks_exact(2).enumerate() {
+        records[i] = Maker {
+            number: pair[0],
+            rating: pair[1],
         };
-        list[i] = m;
     }
-    list
+    records
 }
 
-// Whether the words of each call are a call's.
-fn are_calls(input: &[u8], from: usize, n: usize) -> bool
-    requires { (n ≤ 512) × (from + 12 * n ≤ length input.now) }
-{
-    for k in 0..n {
-        if !standing::is_call(word(input, from + 12 * k), word(input, from + 12 * k + 8)) {
-            return false;
-        }
+fn answer_line(rt: &impl Print, answer: Result<usize, CallError>) -> io::Result<()> {
+    match answer {
+        Ok(count) => println!(rt; "accepted {count}"),
+        Err(error) => println!(rt; "refused {}", u32::from(error)),
     }
-    true
-}
-
-fn answer_line(count: usize, refusal: u32) {
-    if refusal == 0 {
-        text(b"accepted ");
-        number(count as u64);
-    } else {
-        field(b"refused ", refusal);
-    }
-    text(b"\n");
-}
-
-fn one_call(list: [Maker; 512], size: usize, count: usize, kind: u32, m: Maker) -> Left
-    requires { size ≤ 512 }
-{
-    if kind == 1 {
-        return standing_array::join(list, size, count, m);
-    }
-    if kind == 2 {
-        return standing_array::change(list, size, count, m);
-    }
-    standing_array::leave(list, size, count, m.number)
-}
-
-fn record_at(list: [Maker; 512], i: usize) -> Maker
-    requires { i < 512 }
-{
-    list[i]
 }
 
 // `standing` and the used records; `standing` alone where the count is above the records.
-fn standing_line(list: [Maker; 512], size: usize, count: usize)
-    requires { size ≤ 512 }
-{
-    text(b"standing");
-    if count <= size {
-        for i in 0..count {
-            let m = record_at(list, i);
-            field(b" ", m.number);
-            field(b" ", m.rating);
+fn standing_line(rt: &impl Print, records: &[Maker], count: usize) -> io::Result<()> {
+    print!(rt; "standing")?;
+    if count <= records.len() {
+        for m in &records[..count] {
+            print!(rt; " {} {}", m.number, m.rating)?;
         }
     }
-    text(b"\n");
+    println!(rt; "")
 }
 
 // A line a call, each on what the one before left, and then the standing.
-fn run_calls(input: &[u8], size: usize, given: usize, n: usize)
-    requires { (size ≤ 512) × (n ≤ 512) × (16 + 8 * size + 12 * n ≤ length input.now) }
+fn run_calls(
+    rt: &impl Print,
+    records: [Maker; 512],
+    size: usize,
+    given: usize,
+    calls: &[u32],
+) -> io::Result<()>
+    requires { size ≤ 512 }
 {
-    let from = 16 + 8 * size;
-    let mut list = records(input, size);
+    let mut list = records;
     let mut count = given;
-    for k in 0..n {
-        let at = from + 12 * k;
-        let m = Maker {
-            number: word(input, at + 4),
-            rating: word(input, at + 8),
-        };
-        let left = one_call(list, size, count, word(input, at), m);
+    for call in calls.chunks_exact(3) {
+        let call = Call::from_words(call[0], call[1], call[2]);
+        let left = standing_array::apply(list, size, count, call);
         list = left.records;
-        let answer = left.answer;
-        count = answer.count;
-        answer_line(answer.count, answer.refusal);
+        count = left.answer.unwrap_or(count);
+        answer_line(rt, left.answer)?;
     }
-    standing_line(list, size, count);
+    standing_line(rt, &list[..size], count)
 }
 
-// `7 size count`, then the records, `n` and n calls, and nothing else. False: no such case.
-pub fn standing_case(input: &[u8]) -> bool {
-    if input.len() < 12 {
-        return false;
+// `7 size count`, then the records, `n` and n calls, and nothing else.
+pub fn standing_case(rt: &impl Print, mut case: Case<'_>) -> Result<(), CaseError> {
+    let size = case.count(512)?;
+    let count = case.word()? as usize;
+    let words = case.words(2 * size)?;
+    let n = case.count(512)?;
+    let calls = case.words(3 * n)?;
+    case.end()?;
+    for call in calls.chunks_exact(3) {
+        if !standing::is_call(call[0], call[2]) {
+            return Err(CaseError::NoCase);
+        }
     }
-    let size = words::word_at(input, 4) as usize;
-    let count = words::word_at(input, 8) as usize;
-    if 512 < size {
-        return false;
-    }
-    if input.len() < 16 + 8 * size {
-        return false;
-    }
-    let n = words::word_at(input, 12 + 8 * size) as usize;
-    if 512 < n {
-        return false;
-    }
-    if input.len() != 16 + 8 * size + 12 * n {
-        return false;
-    }
-    if !are_calls(input, 16 + 8 * size, n) {
-        return false;
-    }
-    run_calls(input, size, count, n);
-    true
+    run_calls(rt, records(&words), size, count, &calls)?;
+    Ok(())
 }

@@ -1,23 +1,14 @@
 // Maker against taker: the case `8 m h k`.
-use console::field_line;
-use game::SafeAnswer;
+use console::{Case, CaseError};
 
-fn safe_line(answer: SafeAnswer) {
-    match answer {
-        SafeAnswer::Safe(minutes) => field_line(b"safe ", minutes),
-        SafeAnswer::AboveSixty => field_line(b"refused ", 26),
+pub fn safe_case(rt: &impl Print, mut case: Case<'_>) -> Result<(), CaseError> {
+    let m = case.word()?;
+    let h = case.word()?;
+    let k = case.word()?;
+    case.end()?;
+    match game::safe_minutes(m, h, k) {
+        Ok(minutes) => println!(rt; "safe {minutes}")?,
+        Err(refusal) => println!(rt; "refused {}", refusal.number())?,
     }
-}
-
-// False: no such case.
-pub fn safe_case(input: &[u8]) -> bool {
-    if input.len() != 16 {
-        return false;
-    }
-    let m = words::word_at(input, 4);
-    let h = words::word_at(input, 8);
-    let k = words::word_at(input, 12);
-    let answer = game::safe_minutes(m, h, k);
-    safe_line(answer);
-    true
+    Ok(())
 }

@@ -15,11 +15,3 @@ use Rattle.order_table.specs.Table.{table_of}
 pub blank_table : (minimum : ℕ) → replicate 512 0 ≡ table_of minimum []
 unfolding table_of side_of column kept_in level_of level_at best_key greatest filter held
 blank_table minimum = refl
-
--- a turn of the loop that clears
-pub cleared_on : (ws : List ℕ) (i : ℕ) → i < length ws → take i ws ≡ replicate i 0 → take (i + 1) (set ws i 0) ≡ replicate (i + 1) 0
-cleared_on ws i h k =
-    ap (λ (n : ℕ). take n (set ws i 0)) (add-one i)
-    ∙ take-suc-set ws i 0 h
-    ∙ ap (λ (l : List ℕ). l ++ (0 ∷ [])) k
-    ∙ replicate-append-replicate i 1 0

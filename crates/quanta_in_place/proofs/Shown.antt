@@ -1,4 +1,5 @@
 -- What an outlook and a report show of a month's words.
+use Rattle.std.proofs.Common.{Option}
 use Prim.Native.Nat.{ℕ}
 use native.Mathlib.Omega.{arith}
 use mathlib.Core.Path.{◌≡◌, refl, sym, ap, ◌∙◌, subst, subst₂}
@@ -6,6 +7,7 @@ use mathlib.Core.Bool.{Bool}
 use mathlib.Core.List.{List}
 use lib.Dec.{eqb}
 use lib.ListN.{get_or, take, drop, length}
+use Rattle.rules.specs.declared.Steps.{Steps}
 use Rattle.rules.specs.declared.Row.{Row}
 use Rattle.rules.specs.declared.SpreadRule.{SpreadRule}
 use Rattle.rules.specs.declared.Opening.{Opening}
@@ -13,7 +15,6 @@ use Rattle.rules.specs.declared.Event.{Event}
 use Rattle.rules.specs.declared.Order.{Order}
 use Rattle.rules.specs.declared.Cell.{Cell}
 use Rattle.rules.specs.declared.Kopecks.{Kopecks}
-use Rattle.rules.specs.declared.Quote.{Quote}
 use Rattle.rules.specs.declared.Outlook.{Outlook}
 use Rattle.rules.specs.declared.Side.TheVariants.{Buy, Sell}
 use Rattle.rules.specs.Terms.{paper}
@@ -89,7 +90,7 @@ module _ (ws : List ℕ) (h : get_or ws 0 0 ≡ 0 → ⊥) (duty : Duty) (clock 
 -- ---- report
 
 module _ (ws : List ℕ) (clock : Clock) (read-clock : (k : Clock) → take 5 (drop 3 (take 598 (drop 6 ws))) ≡ clock_words k → clock ≡ k)
-    (orders : ℕ) (bid ask : Quote)
+    (orders : ℕ) (bid ask : Option Steps)
     (count : (m : ℕ) (live : List Order) → GoodOrders live → take 512 (drop 10 (take 598 (drop 6 ws))) ≡ table_of m live → orders ≡ length live)
     (best-bid : (m : ℕ) (live : List Order) → GoodOrders live → take 512 (drop 10 (take 598 (drop 6 ws))) ≡ table_of m live → bid ≡ best Buy m live)
     (best-ask : (m : ℕ) (live : List Order) → GoodOrders live → take 512 (drop 10 (take 598 (drop 6 ws))) ≡ table_of m live → ask ≡ best Sell m live)

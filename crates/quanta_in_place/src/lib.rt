@@ -9,7 +9,7 @@ ghost use Rattle.rules.specs.Causes.{good_spread_rule};
 ghost use Rattle.rules.specs.Answers.{shown_report, shown_outlook};
 ghost use Rattle.rules.specs.Calls.{Idle};
 ghost use Rattle.rules.specs.Calls as B;
-ghost use Rattle.quantum.specs.Represents.{quantum_of, quantum_in};
+ghost use Rattle.quantum.specs.Represents.{quantum_of, quantum_in, idle_row};
 ghost use Rattle.quantum.specs.Words.{quantum_words};
 ghost use Rattle.month.specs.Words.{words_after, HoldsMonth};
 ghost use Rattle.month_in_place.specs.Events.{ChangesMonth, ShowsMonth};
@@ -19,8 +19,8 @@ use month::{CELLS_AT, MONTH_WORDS, QUANTUM_AT};
 use numbers::both;
 use quantum::{NOTES_AT, QUANTUM_WORDS, TABLE_AT};
 use rules::{
-    Cell, Contracts, Kopecks, Millis, Opening, OutlookAnswer, Refusal, Report, Row, RowRead, Side,
-    SpreadRule, Steps,
+    Cell, Contracts, Kopecks, Millis, Opening, Outlook, Refusal, Report, Row, Side, SpreadRule,
+    Steps,
 };
 
 // ---- the words before the cells
@@ -28,11 +28,7 @@ use rules::{
 fn clear(words: &mut [u32])
     ensures { words.new ≡ replicate (length words.old) 0 }
 {
-    let mut i: usize = 0;
-    while i < words.len() {
-        words[i] = 0;
-        i += 1;
-    }
+    words.fill(0);
 }
 
 // The 598 words of a quantum that opens with no orders, at time 0.
@@ -74,12 +70,11 @@ fn restart(
     put_opened(&mut words[QUANTUM_AT..CELLS_AT], row, spread);
 }
 
-// One accepted call more, and no quantum is open: zeros, and the idle quantum (quantum/specs/Represents) in its place.
-fn forget(words: &mut [u32])
-    requires { 2464 ≤ length words.old }
-    ensures { words.new ≡ restarted words.old (0 ∷ 0 ∷ 0 ∷ 0 ∷ []) (quantum_in Idle) }
+// The row of the quantum that the words have while none is open.
+fn idle_row() -> Row
+    ensures { result ≡ idle_row }
 {
-    let row = Row {
+    Row {
         expiry: 1,
         quantum: 0,
         length: Millis(1000),
@@ -87,7 +82,15 @@ fn forget(words: &mut [u32])
         a: 0,
         b: 0,
         share: 1,
-    };
+    }
+}
+
+// One accepted call more, and no quantum is open: zeros, and the idle quantum (quantum/specs/Represents) in its place.
+fn forget(words: &mut [u32])
+    requires { 2464 ≤ length words.old }
+    ensures { words.new ≡ restarted words.old (0 ∷ 0 ∷ 0 ∷ 0 ∷ []) (quantum_in Idle) }
+{
+    let row = idle_row();
     restart(words, 0, 0, 0, 0, row, SpreadRule::Settled(Steps(0)));
 }
 
@@ -96,15 +99,7 @@ pub fn fresh(words: &mut [u32])
     requires { length words.old ≡ 2464 }
     ensures { words.new ≡ words_after [] }
 {
-    let row = Row {
-        expiry: 1,
-        quantum: 0,
-        length: Millis(1000),
-        minimum: Contracts(1),
-        a: 0,
-        b: 0,
-        share: 1,
-    };
+    let row = idle_row();
     clear(words);
     put_opened(
         &mut words[QUANTUM_AT..CELLS_AT],
@@ -121,7 +116,7 @@ pub fn drop(words: &mut [u32]) -> u32
     ensures { ChangesMonth words.old B.Drop words.new result }
 {
     if words[0] == 0 {
-        return rules::number(Refusal::NoQuantumOpen);
+        return u32::from(Refusal::NoQuantumOpen);
     }
     forget(words);
     0
@@ -133,10 +128,10 @@ pub fn close(words: &mut [u32], active: Kopecks, passive: Kopecks) -> u32
     ensures { ChangesMonth words.old (B.Close active passive) words.new result }
 {
     if !cells::both_charges(active, passive) {
-        return rules::number(Refusal::ArgumentOutOfRange);
+        return u32::from(Refusal::ArgumentOutOfRange);
     }
     if words[0] == 0 {
-        return rules::number(Refusal::NoQuantumOpen);
+        return u32::from(Refusal::NoQuantumOpen);
     }
     let duty = clock::duty_in(&words[6..9]);
     let clock = clock::clock_in(&words[9..14]);
@@ -166,21 +161,21 @@ fn open_row(words: &mut [u32], row: Row, day: u32, opening: Opening) -> u32
 {
     let spread = opening.spread;
     if !both(ranges::between(1, 31, day), ranges::settlement(spread)) {
-        return rules::number(Refusal::ArgumentOutOfRange);
+        return u32::from(Refusal::ArgumentOutOfRange);
     }
     let place = cells::place_of(day, row.expiry, row.quantum);
     let cell = cells_in_place::at(&words[CELLS_AT..MONTH_WORDS], place);
     if cell.filled {
-        return rules::number(Refusal::CellFilled);
+        return u32::from(Refusal::CellFilled);
     }
     if words[0] != 0 {
-        return rules::number(Refusal::QuantumOpen);
+        return u32::from(Refusal::QuantumOpen);
     }
     if !ranges::lapse_limit(opening.allowed) {
-        return rules::number(Refusal::LapseLimitOutOfRange);
+        return u32::from(Refusal::LapseLimitOutOfRange);
     }
     if !strike::in_range(spread) {
-        return rules::number(Refusal::StrikesOutOfRange);
+        return u32::from(Refusal::StrikesOutOfRange);
     }
     restart(
         words,
@@ -202,8 +197,8 @@ pub fn open(words: &mut [u32], row: &[u32], day: u32, opening: Opening) -> u32
     let spread = opening.spread;
     let read = row::read(row, spread);
     match read {
-        RowRead::Read(good) => open_row(words, good, day, opening),
-        RowRead::Refused(r) => rules::number(r),
+        Ok(good) => open_row(words, good, day, opening),
+        Err(r) => u32::from(r),
     }
 }
 
@@ -250,17 +245,17 @@ pub fn withdraw(words: &mut [u32], day: u32, expiry: u32, quantum: u32) -> u32
 // ---- calls that show the state
 
 // The state of the open quantum, and whether the maker may rest. The words do not change.
-pub fn outlook(words: &[u32]) -> OutlookAnswer
+pub fn outlook(words: &[u32]) -> Result<Outlook, Refusal>
     requires { HoldsMonth words.now × (2464 ≤ length words.now) }
     ensures { ShowsMonth words.now B.Outlook (shown_outlook result) }
 {
     if words[0] == 0 {
-        return OutlookAnswer::Refused(Refusal::NoQuantumOpen);
+        return Err(Refusal::NoQuantumOpen);
     }
     let quantum = &words[QUANTUM_AT..CELLS_AT];
     let duty = clock::duty_in(&quantum[0..3]);
     let clock = clock::clock_in(&quantum[3..8]);
-    OutlookAnswer::Shown(outlook::of(duty, clock, words[2], words[3]))
+    Ok(outlook::of(duty, clock, words[2], words[3]))
 }
 
 // Open or not, time, live orders, best quotes, kept time and lapses of the open quantum; the failure counts and the fee. The words are as

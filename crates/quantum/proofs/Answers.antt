@@ -1,4 +1,5 @@
 -- From the clock and the table to the quantum that holds them, and the numbers that refuse an event.
+use Rattle.std.proofs.Common.{Err, Ok}
 use Prim.Native.Nat.{ℕ, zero, suc, ◌≤◌, ◌<◌}
 use mathlib.Core.Path.{◌≡◌, refl, ap, sym, ◌∙◌}
 use mathlib.Core.List.{List, [], ◌∷◌, ◌++◌}
@@ -8,7 +9,6 @@ use Rattle.rules.specs.declared.Row.{Row}
 use Rattle.rules.specs.declared.SpreadRule.{SpreadRule}
 use Rattle.rules.specs.declared.Event.{Event}
 use Rattle.rules.specs.declared.Refusal.{Refusal}
-use Rattle.rules.specs.declared.Answer.TheVariants.{Accepted, Refused}
 use Rattle.rules.specs.Answers.{Outcome, Reply, refused, outcome_by, done, number_of}
 use Rattle.rules.specs.Orders.{live, apply_all}
 use Rattle.rules.specs.Causes.{event_refusal}
@@ -102,7 +102,7 @@ module _ (q : Quantum) (e : Event) (exit : List ℕ) (r : ClockAfter) (h : Event
 
   pub sent-accepted : (l : r.refusal ≤ 0) (notes : List ℕ)
       → ((row : Row) (sp : SpreadRule) (es : List Event) → Accepts row sp es e q.table exit q.notes → notes ≡ notes_of row sp (live (es ++ (e ∷ []))))
-      → Answered q e (record { quantum = record { duty = q.duty; clock = r.clock; table = exit; notes = notes }; answer = Accepted })
+      → Answered q e (record { quantum = record { duty = q.duty; clock = r.clock; table = exit; notes = notes }; answer = (Ok tt) })
   unfolding quantum_of
   sent-accepted l notes k =
       let z : r.refusal ≡ 0 = omega arith in
@@ -114,13 +114,13 @@ module _ (q : Quantum) (e : Event) (exit : List ℕ) (r : ClockAfter) (h : Event
         answer = λ row sp es g is. ap (λ (n : ℕ). outcome_by n done) (sym z ∙ number_is row sp es g is);
       }
 
-  pub sent_refused : (f : Refusal) → 0 < r.refusal → number_of f ≡ r.refusal → Answered q e (record { quantum = q; answer = Refused f })
+  pub sent_refused : (f : Refusal) → 0 < r.refusal → number_of f ≡ r.refusal → Answered q e (record { quantum = q; answer = Err f })
   sent_refused f l k = go r.refusal refl
     where
       shown : (m : ℕ) → number_of f ≡ suc m → ◌≡◌ {A = Outcome Reply} (refused (number_of f)) (outcome_by (suc m) done)
       shown m z = ap (λ (n : ℕ). refused n) z
 
-      go : (n : ℕ) → r.refusal ≡ n → Answered q e (record { quantum = q; answer = Refused f })
+      go : (n : ℕ) → r.refusal ≡ n → Answered q e (record { quantum = q; answer = Err f })
       go zero z = absurd (omega (arith, l, z))
       go (suc m) z =
           record {

@@ -42,6 +42,10 @@ abbrev pub quantum_in : Running → Quantum
 quantum_in Idle = quantum_of idle_row (Settled (steps (pos 0))) []
 quantum_in (Quoting place row opening events) = quantum_of row opening.spread events
 
+-- it holds of every row, spread rule and accepted events that led to q
+abbrev pub OfEvents : Quantum → (Row → SpreadRule → List Event → Type 0) → Type 0
+OfEvents q Holds = (row : Row) (sp : SpreadRule) (events : List Event) → EventBounds row events → q ≡ quantum_of row sp events → Holds row sp events
+
 -- a quantum that a call handed back
 pub record Reached (q : Quantum) : Type 0 where
   pub row : Row
@@ -53,7 +57,5 @@ pub record Reached (q : Quantum) : Type 0 where
 
 -- what an event promises: for all accepted events that led to q, the quantum with this event taken or refused, and the book's number
 pub record Answered (q : Quantum) (e : Event) (r : Sent) : Type 0 where
-  pub quantum : (row : Row) (sp : SpreadRule) (events : List Event) → EventBounds row events → q ≡ quantum_of row sp events
-      → r.quantum ≡ quantum_of row sp (taken (event_refusal row events e) events e)
-  pub answer : (row : Row) (sp : SpreadRule) (events : List Event) → EventBounds row events → q ≡ quantum_of row sp events
-      → shown_answer r.answer ≡ outcome_by (event_refusal row events e) done
+  pub quantum : OfEvents q (λ row sp events. r.quantum ≡ quantum_of row sp (taken (event_refusal row events e) events e))
+  pub answer : OfEvents q (λ row sp events. shown_answer r.answer ≡ outcome_by (event_refusal row events e) done)

@@ -17,13 +17,13 @@ ghost use Rattle.rules.specs.Calls.{Idle};
 ghost use Rattle.rules.specs.Causes.{good_spread_rule};
 ghost use Rattle.rules.specs.Bounds.{EventBounds};
 ghost use Rattle.order_arrivals.specs.Notes.{notes_of};
-ghost use Rattle.quantum.specs.Represents.{quantum_of, quantum_in, Reached, Answered};
+ghost use Rattle.quantum.specs.Represents.{quantum_of, quantum_in, OfEvents, Reached, Answered};
 ghost use Rattle.quantum.specs.declared.Quantum.{Quantum};
 ghost use Rattle.quantum.specs.Words.{quantum_words, Sized};
 ghost use Rattle.quantum.specs.Internal.{Accepts, Noting};
 
 use clock::{Clock, Duty, Totals};
-use rules::{Answer, Contracts, Event, Millis, Quote, Row, Side, SpreadRule, Steps};
+use rules::{Contracts, Event, Millis, Refusal, Row, Side, SpreadRule, Steps};
 
 // Where the parts of an open quantum's words start (specs/Words): the table, the notes and, last among these, the row and what the spread
 // limit depends on; and how many words it has.
@@ -48,7 +48,7 @@ pub struct Quantum {
 #[derive(Clone, Copy)]
 pub struct Sent {
     pub quantum: Quantum,
-    pub answer: Answer,
+    pub answer: Result<(), Refusal>,
 }
 
 // The notes after an accepted event, by the tables before and after it.
@@ -82,7 +82,7 @@ fn stepped_on(duty: Duty, clock: Clock, table: [u32; 512], notes: [u32; 76], e: 
                 table,
                 notes,
             },
-            answer: Answer::Refused(rules::refusal_of(n)),
+            answer: Err(rules::refusal_of(n)),
         };
     }
     let notes = noted(table, next, notes, e);
@@ -93,7 +93,7 @@ fn stepped_on(duty: Duty, clock: Clock, table: [u32; 512], notes: [u32; 76], e: 
             table: next,
             notes,
         },
-        answer: Answer::Accepted,
+        answer: Ok(()),
     }
 }
 
@@ -131,7 +131,8 @@ impl Quantum {
         Quantum::opened(row, SpreadRule::Settled(Steps(0)))
     }
 
-    // An event: taken, or refused with the quantum as it was.
+    // An event: taken, or refused with the quantum as it was. `Reached` is required here and no fact of the type: `of_words` hands back a
+    // quantum for any 598 words.
     pub fn send(self, e: Event) -> Sent
         requires { Reached self }
         ensures { Answered self e result }
@@ -146,7 +147,7 @@ impl Quantum {
     // Kept time and lapses at the quantum's end.
     pub fn ended(self) -> Totals
         requires { Reached self }
-        ensures { (row : Row) (sp : SpreadRule) (events : List Event) → EventBounds row events → self ≡ quantum_of row sp events → (result.kept.0 ≡ kept_below row sp events row.length.0) × (result.lapses ≡ lapses_below row sp events row.length.0) }
+        ensures { OfEvents self (λ row sp events. (result.kept.0 ≡ kept_below row sp events row.length.0) × (result.lapses ≡ lapses_below row sp events row.length.0)) }
     {
         let duty = self.duty;
         let clock = self.clock;
@@ -196,24 +197,24 @@ impl Quantum {
     }
 
     // The best quote of a side.
-    fn best(self, side: Side) -> Quote
+    fn best(self, side: Side) -> Option<Steps>
         requires { Reached self }
-        ensures { (row : Row) (sp : SpreadRule) (events : List Event) → EventBounds row events → self ≡ quantum_of row sp events → result ≡ bestQuote side row.minimum.0 (liveOrders events) }
+        ensures { OfEvents self (λ row sp events. result ≡ bestQuote side row.minimum.0 (liveOrders events)) }
     {
         let table = self.table;
         order_table::best(&table, side)
     }
 
-    pub fn best_bid(self) -> Quote
+    pub fn best_bid(self) -> Option<Steps>
         requires { Reached self }
-        ensures { (row : Row) (sp : SpreadRule) (events : List Event) → EventBounds row events → self ≡ quantum_of row sp events → result ≡ best_bid row (liveOrders events) }
+        ensures { OfEvents self (λ row sp events. result ≡ best_bid row (liveOrders events)) }
     {
         self.best(Side::Buy)
     }
 
-    pub fn best_ask(self) -> Quote
+    pub fn best_ask(self) -> Option<Steps>
         requires { Reached self }
-        ensures { (row : Row) (sp : SpreadRule) (events : List Event) → EventBounds row events → self ≡ quantum_of row sp events → result ≡ best_ask row (liveOrders events) }
+        ensures { OfEvents self (λ row sp events. result ≡ best_ask row (liveOrders events)) }
     {
         self.best(Side::Sell)
     }
@@ -221,7 +222,7 @@ impl Quantum {
     // Whether a live order of the other side has the id.
     pub fn on_other_side(self, side: Side, id: u32) -> bool
         requires { Reached self }
-        ensures { (row : Row) (sp : SpreadRule) (events : List Event) → EventBounds row events → self ≡ quantum_of row sp events → result ≡ any (λ (o : Order). has_id id o && not (same side o.side)) (liveOrders events) }
+        ensures { OfEvents self (λ row sp events. result ≡ any (λ (o : Order). has_id id o && not (same side o.side)) (liveOrders events)) }
     {
         let table = self.table;
         order_table::on_other_side(&table, side, id)
@@ -229,7 +230,7 @@ impl Quantum {
 
     pub fn live(self) -> u32
         requires { Reached self }
-        ensures { (row : Row) (sp : SpreadRule) (events : List Event) → EventBounds row events → self ≡ quantum_of row sp events → result ≡ length (liveOrders events) }
+        ensures { OfEvents self (λ row sp events. result ≡ length (liveOrders events)) }
     {
         let table = self.table;
         order_table::count(&table)
@@ -248,11 +249,11 @@ impl Quantum {
         let minimum = duty.minimum;
         let three = [length.0, minimum.0, duty.widest];
         let zeros = [0u32; 2];
-        lent::copy(&three, &mut words[0..3]);
+        words[0..3].copy_from_slice(&three);
         clock::put_clock(clock, &mut words[3..8]);
-        lent::copy(&zeros, &mut words[8..10]);
-        lent::copy(&table, &mut words[TABLE_AT..NOTES_AT]);
-        lent::copy(&notes, &mut words[NOTES_AT..QUANTUM_WORDS]);
+        words[8..10].copy_from_slice(&zeros);
+        words[TABLE_AT..NOTES_AT].copy_from_slice(&table);
+        words[NOTES_AT..QUANTUM_WORDS].copy_from_slice(&notes);
     }
 
     // The quantum whose words these are.
@@ -264,8 +265,8 @@ impl Quantum {
         let clock = clock::clock_in(&words[3..8]);
         let mut table = [0u32; 512];
         let mut notes = [0u32; 76];
-        lent::copy(&words[TABLE_AT..NOTES_AT], &mut table);
-        lent::copy(&words[NOTES_AT..QUANTUM_WORDS], &mut notes);
+        table.copy_from_slice(&words[TABLE_AT..NOTES_AT]);
+        notes.copy_from_slice(&words[NOTES_AT..QUANTUM_WORDS]);
         Quantum {
             duty,
             clock,

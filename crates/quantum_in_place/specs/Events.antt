@@ -20,6 +20,11 @@ pub record HoldsQuantum (words : List ℕ) : Type 0 where
   pub reached : Reached quantum
   pub is : words ≡ quantum_words quantum
 
+-- it holds of every row, spread rule and accepted events whose quantum's words these are
+abbrev pub OfWords : List ℕ → (Row → SpreadRule → List Event → Type 0) → Type 0
+OfWords words Holds =
+    (row : Row) (sp : SpreadRule) (events : List Event) → EventBounds row events → words ≡ quantum_words (quantum_of row sp events) → Holds row sp events
+
 -- its words before its notes, and those of a quantum that a call handed back
 abbrev pub front_words : Quantum → List ℕ
 front_words q = duty_words q.duty ++ clock_words q.clock ++ (0 ∷ 0 ∷ q.table)
@@ -49,10 +54,8 @@ StepsFrontRead words (refused k) words' n = (n ≡ k) × (words' ≡ words)
 -- .. and of all of them: for all accepted events that led to them, the book's number, and the words with this
 -- event taken or refused.
 pub record StepsWords (words : List ℕ) (e : Event) (words' : List ℕ) (n : ℕ) : Type 0 where
-  pub number : (row : Row) (sp : SpreadRule) (events : List Event) → EventBounds row events → words ≡ quantum_words (quantum_of row sp events)
-      → n ≡ event_refusal row events e
-  pub words_after : (row : Row) (sp : SpreadRule) (events : List Event) → EventBounds row events → words ≡ quantum_words (quantum_of row sp events)
-      → words' ≡ quantum_words (quantum_of row sp (taken (event_refusal row events e) events e))
+  pub number : OfWords words (λ row sp events. n ≡ event_refusal row events e)
+  pub words_after : OfWords words (λ row sp events. words' ≡ quantum_words (quantum_of row sp (taken (event_refusal row events e) events e)))
 
 -- what fields promise of all of them
 abbrev pub StepsRead : List ℕ → Outcome Event → List ℕ → ℕ → Type 0

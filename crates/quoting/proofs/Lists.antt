@@ -1,17 +1,16 @@
 -- A list of calls, as the number that is answered.
-use Rattle.std.specs.Prelude.{if◌then◌else◌}
+use Rattle.std.specs.Prelude.{if◌then◌else◌, Ok, Err, is_ok}
 use Prim.Native.Nat.{ℕ, ◌*◌, ◌≤◌, ◌<◌}
 use mathlib.Core.Path.{◌≡◌, refl, sym, ap, ◌∙◌}
-use mathlib.Core.Bool.{Bool, true, false, not}
+use mathlib.Core.Bool.{Bool, true, false}
 use mathlib.Core.List.{List, ◌++◌}
 use lib.ListN.{length, drop}
-use borrow.Author.Tests.{le-leb, lt-leb, not-true, not-false}
+use borrow.Author.Tests.{le-leb, lt-leb}
 use Rattle.rules.specs.Answers.{accepted, refused}
 use Rattle.rules.specs.Calls.{Call}
 use Rattle.words.specs.Bytes.{words_in}
 use Rattle.call_blocks.specs.Reading.{calls_of, words_read}
-use Rattle.call_list.specs.declared.Listed.{Listed}
-use Rattle.call_list.specs.Listing.{answers_of, ListAnswered}
+use Rattle.call_list.specs.Listing.{answers_of, Listed, read_of, ListAnswered}
 use Rattle.c_answers.specs.Answers.{refused_number, value_number}
 use Rattle.quoting.specs.Lists.{answered_calls, calls_number, calls_buffer, AnswersCalls, words_outcome}
 
@@ -33,7 +32,7 @@ module _ (bytes before : List ℕ) (r : ℕ) where
       calls = calls_of (words_in bytes)
 
       -- what is answered, by whether the answers fit
-      by_fits : answered_calls (length bytes) (length before) calls ≡ (if l.fits then accepted calls else refused 16)
+      by_fits : answered_calls (length bytes) (length before) calls ≡ (if is_ok l then accepted calls else refused 16)
       by_fits = rw (lt-leb 17179869184 (length bytes) h, sym g.fits) refl
 
       left : (b : Bool) → (if b then answers_of calls ++ drop (20 * length calls) before else before) ≡ calls_buffer before (if b then accepted calls else refused 16)
@@ -41,20 +40,20 @@ module _ (bytes before : List ℕ) (r : ℕ) where
       left false = refl
 
       buffer_left : behind ≡ calls_buffer before (answered_calls (length bytes) (length before) calls)
-      buffer_left = g.answers ∙ left l.fits ∙ ap (calls_buffer before) (sym by_fits)
+      buffer_left = g.answers ∙ left (is_ok l) ∙ ap (calls_buffer before) (sym by_fits)
 
-      pub list_short : not l.fits ≡ true → r ≡ refused_number 16 → AnswersCalls bytes before behind r
-      list_short n e =
-          record {
-            number = e ∙ ap (λ (b : Bool). calls_number (if b then accepted calls else refused 16)) (sym (not-true l.fits n)) ∙ ap calls_number (sym by_fits);
-            buffer = buffer_left;
-          }
+      -- the number, by what the run answers
+      abbrev pub number_by : Listed → ℕ
+      number_by (Ok list) = list.calls
+      number_by (Err short) = refused_number 16
 
-      pub list_answered : not l.fits ≡ false → r ≡ l.calls → AnswersCalls bytes before behind r
-      list_answered n e =
+      by_run : (run : Listed) → (read_of run).calls ≡ length calls → number_by run ≡ calls_number (if is_ok run then accepted calls else refused 16)
+      by_run (Ok list) e = e
+      by_run (Err short) e = refl
+
+      pub list_answered : (run : Listed) → l ≡ run → r ≡ number_by run → AnswersCalls bytes before behind r
+      list_answered run is e =
           record {
-            number =
-                e ∙ g.calls ∙ ap (λ (b : Bool). calls_number (if b then accepted calls else refused 16)) (sym (not-false l.fits n))
-                ∙ ap calls_number (sym by_fits);
+            number = e ∙ ap number_by (sym is) ∙ by_run l g.calls ∙ ap calls_number (sym by_fits);
             buffer = buffer_left;
           }

@@ -183,11 +183,10 @@ pub extern "C" fn quoting_calls(calls: &[u8], answers: &mut [u32]) -> u64
     if 17179869184 <= calls.len() {
         return c_answers::refused(3);
     }
-    let list = call_list::run(calls, answers);
-    if !list.fits {
-        return c_answers::refused(16);
+    match call_list::run(calls, answers) {
+        Ok(list) => list.calls as u64,
+        Err(_) => c_answers::refused(16),
     }
-    list.calls as u64
 }
 
 // How many words of a list are calls, from the first on.

@@ -1,8 +1,7 @@
-// The ranges of document 01's numbers, each as a test. Tests are joined by calls of `both`, so that no branches meet.
+// The ranges of document 01's numbers, each as a test. Tests are joined by `&`, which has no branch.
 #![tactic(auto)]
 
-ghost use Rattle.std.specs.Prelude.{◌≡◌, leb};
-ghost use Rattle.std.specs.Int.Signed.{le_z};
+ghost use Rattle.std.specs.Prelude.{◌≡◌};
 ghost use Rattle.lists.specs.Lists.{within};
 ghost use Rattle.rules.specs.Terms.{paper};
 ghost use Rattle.rules.specs.Units.{good_price, good_volume, good_charge};
@@ -10,38 +9,21 @@ ghost use Rattle.rules.specs.Cells.{good_cell};
 ghost use Rattle.rules.specs.Lapses.{good_lapse_limit};
 ghost use Rattle.rules.specs.Causes.{good_settlement};
 
-use numbers::both;
 use rules::{Contracts, Kopecks, SpreadRule, Steps};
-
-// A number up to an end.
-pub fn at_most(n: u32, high: u32) -> bool
-    ensures { result ≡ leb n high }
-{
-    n <= high
-}
 
 // A number from one end to the other, both taken in.
 pub fn between(low: u32, high: u32, n: u32) -> bool
     ensures { result ≡ within low high n }
 {
-    both(at_most(low, n), at_most(n, high))
-}
-
-// A price up to another. A signed comparison is a function of its own, so that callers use its answer alone.
-pub fn price_at_most(p: Steps, q: Steps) -> bool
-    ensures { result ≡ le_z p.0 q.0 }
-{
-    p.0 <= q.0
+    (low <= n) & (n <= high)
 }
 
 // A price, or SP.
+#[tactic(auto, unfolding(rules::specs::Units::good_price))]
 pub fn price(p: Steps) -> bool
     ensures { result ≡ good_price p.0 }
 {
-    both(
-        price_at_most(Steps(-1000000000), p),
-        price_at_most(p, Steps(1000000000)),
-    )
+    (-1000000000 <= p.0) & (p.0 <= 1000000000)
 }
 
 // SP, where open is given it.
@@ -55,6 +37,7 @@ pub fn settlement(spread: SpreadRule) -> bool
 }
 
 // The volume of an order or a deal.
+#[tactic(auto, unfolding(rules::specs::Units::good_volume))]
 pub fn volume(v: Contracts) -> bool
     ensures { result ≡ good_volume v.0 }
 {
@@ -62,6 +45,7 @@ pub fn volume(v: Contracts) -> bool
 }
 
 // A or P.
+#[tactic(auto, unfolding(rules::specs::Units::good_charge))]
 pub fn charge(k: Kopecks) -> bool
     ensures { result ≡ good_charge paper k.0 }
 {
@@ -69,19 +53,16 @@ pub fn charge(k: Kopecks) -> bool
 }
 
 // A lapse limit: 0 to 1,000, or 65,535 for none.
+#[tactic(auto, unfolding(rules::specs::Lapses::good_lapse_limit))]
 pub fn lapse_limit(n: u32) -> bool
     ensures { result ≡ good_lapse_limit n }
 {
-    if at_most(n, 1000) {
-        return true;
-    }
-    n == 65535
+    (n <= 1000) | (n == 65535)
 }
 
 // A day, an expiry and a quantum that name a cell.
 pub fn cell(day: u32, expiry: u32, quantum: u32) -> bool
     ensures { result ≡ good_cell day expiry quantum }
 {
-    let named = both(between(1, 31, day), between(1, 2, expiry));
-    both(named, at_most(quantum, 2))
+    between(1, 31, day) & between(1, 2, expiry) & (quantum <= 2)
 }

@@ -32,14 +32,6 @@ fields_are bytes k t i p v = λ j. record { kind = k j; t = millis (t j); id = i
 
 -- ---- good fields, by their kind
 module _ (f : Fields) where
-  pub good_cancel : {a b : Bool} → f.kind ≡ 4 → a ≡ eqb (unsigned_of f.price.0) 0 → b ≡ eqb f.volume.0 0 → a && b ≡ good_fields f
-  unfolding good_fields unused_zero
-  good_cancel e h k = rw (e, h, k) refl
-
-  pub good_deal : {a : Bool} → f.kind ≡ 5 → a ≡ eqb (unsigned_of f.price.0) 0 → a ≡ good_fields f
-  unfolding good_fields unused_zero
-  good_deal e h = rw (e, h) refl
-
   pub good_tick : {a b c : Bool} → f.kind ≡ 6 → a ≡ eqb f.id 0 → b ≡ eqb (unsigned_of f.price.0) 0 → c ≡ eqb f.volume.0 0
       → a && b && c ≡ good_fields f
   unfolding good_fields unused_zero
@@ -70,13 +62,6 @@ module _ (f : Fields) where
   pub deal_of : f.kind ≡ 5 → Deal f.t f.id f.volume ≡ event_by f
   unfolding event_by
   deal_of k = rw k refl
-
-  pub tick_of : (f.kind ≡ 1 → ⊥) → (f.kind ≡ 2 → ⊥) → (f.kind ≡ 3 → ⊥) → (f.kind ≡ 4 → ⊥) → (f.kind ≡ 5 → ⊥) → Tick f.t ≡ event_by f
-  unfolding event_by
-  tick_of a b c d g =
-      rw
-      (ne_eqb f.kind 1 a, ne_eqb f.kind 2 b, ne_eqb f.kind 3 c, ne_eqb f.kind 4 d, ne_eqb f.kind 5 g)
-      refl
 
 -- ---- what fields say, by the test
 module _ (f : Fields) where

@@ -1,7 +1,7 @@
 -- So many more accepted calls at once: the count moved by their number, modulo 2^64.
-use Prim.Native.Nat.{ℕ, zero, suc, ◌+◌, ◌-◌, ◌%◌, ◌≤◌, ◌<◌}
+use Prim.Native.Nat.{ℕ, zero, suc, ◌+◌, ◌%◌, ◌<◌}
 use native.Mathlib.Omega.{arith}
-use mathlib.Core.Path.{◌≡◌, sym, ap, ◌∙◌}
+use mathlib.Core.Path.{◌≡◌, ◌∙◌}
 use Rattle.rules.specs.Changes.{following, count_after}
 
 following_small : (c : ℕ) → following c < 18446744073709551616
@@ -12,15 +12,6 @@ following-sum : (c n : ℕ) → (following c + n) % 18446744073709551616 ≡ (c 
 unfolding following
 following-sum c n = omega arith
 
-count_many : (n c : ℕ) → c < 18446744073709551616 → count_after n c ≡ (c + n) % 18446744073709551616
+pub count_many : (n c : ℕ) → c < 18446744073709551616 → count_after n c ≡ (c + n) % 18446744073709551616
 count_many zero c h = omega arith
 count_many (suc n) c h = count_many n (following c) (following_small c) ∙ following-sum c n
-
-pub count_below_lem : (n c : ℕ) → c < 18446744073709551616 → n ≤ 18446744073709551615 - c → c + n ≡ count_after n c
-count_below_lem n c h l = let small : (c + n) % 18446744073709551616 ≡ c + n = omega arith in sym (count_many n c h ∙ small)
-
-pub count_past : (n c : ℕ) → c < 18446744073709551616 → n < 18446744073709551616 → 18446744073709551615 - c < n
-    → n - (18446744073709551615 - c) - 1 ≡ count_after n c
-count_past n c h k l =
-    let past : (c + n) % 18446744073709551616 ≡ n - (18446744073709551615 - c) - 1 = omega arith in
-    sym (count_many n c h ∙ past)

@@ -10,6 +10,7 @@ use Rattle.rules.specs.Session.{records_of}
 use Rattle.record_runs.specs.Internal.{refusal_by, followed}
 use Rattle.quantum.specs.Represents.{quantum_of}
 use Rattle.quantum.specs.Words.{quantum_words}
+use Rattle.quantum_in_place.specs.Events.{OfWords}
 use Rattle.records_in_place.specs.declared.Taken.{Taken}
 use Rattle.records_in_place.specs.Records.{most_sent}
 
@@ -44,12 +45,9 @@ events_from row place es (r ∷ rs) =
 
 -- what records promise of an open quantum's words: for all accepted events that led to them, the words with the taken ones', and how it ends
 pub record RunsQuantum (words records words' : List ℕ) (r : Taken) : Type 0 where
-  pub words_after : (row : Row) (sp : SpreadRule) (es : List Event) → EventBounds row es → words ≡ quantum_words (quantum_of row sp es)
-      → words' ≡ quantum_words (quantum_of row sp (es ++ (events_from row 1 es (records_of records)).events))
-  pub count : (row : Row) (sp : SpreadRule) (es : List Event) → EventBounds row es → words ≡ quantum_words (quantum_of row sp es)
-      → r.count ≡ length (events_from row 1 es (records_of records)).events
-  pub refusal : (row : Row) (sp : SpreadRule) (es : List Event) → EventBounds row es → words ≡ quantum_words (quantum_of row sp es)
-      → r.refusal ≡ (events_from row 1 es (records_of records)).refusal
+  pub words_after : OfWords words (λ row sp es. words' ≡ quantum_words (quantum_of row sp (es ++ (events_from row 1 es (records_of records)).events)))
+  pub count : OfWords words (λ row sp es. r.count ≡ length (events_from row 1 es (records_of records)).events)
+  pub refusal : OfWords words (λ row sp es. r.refusal ≡ (events_from row 1 es (records_of records)).refusal)
 
 -- in the loop over the records, at a byte: the events taken so far
 pub record RunState (row : Row) (sp : SpreadRule) (es : List Event) (bytes words : List ℕ) (at : ℕ) : Type 0 where
@@ -61,5 +59,4 @@ pub record RunState (row : Row) (sp : SpreadRule) (es : List Event) (bytes words
 
 -- .. for all events that led to the words at its start
 abbrev pub RunStates : List ℕ → List ℕ → List ℕ → ℕ → Type 0
-RunStates start bytes words at =
-    (row : Row) (sp : SpreadRule) (es : List Event) → EventBounds row es → start ≡ quantum_words (quantum_of row sp es) → RunState row sp es bytes words at
+RunStates start bytes words at = OfWords start (λ row sp es. RunState row sp es bytes words at)

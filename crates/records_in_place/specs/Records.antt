@@ -1,5 +1,5 @@
 -- Event records on a live month, by the plain book: the event calls of those that are taken, and what refuses the next.
-use Rattle.std.specs.Prelude.{ℕ, zero, suc, ◌≡◌, List, [], ◌∷◌, ◌++◌, length, take, drop, if◌then◌else◌}
+use Rattle.std.specs.Prelude.{ℕ, zero, suc, ◌≡◌, List, [], ◌∷◌, ◌++◌, length, drop, if◌then◌else◌}
 use Rattle.rules.specs.declared.Event.{Event}
 use Rattle.rules.specs.Terms.{paper}
 use Rattle.rules.specs.Answers.{Outcome, accepted, refused}
@@ -7,7 +7,7 @@ use Rattle.rules.specs.Calls.{Call, Send, Book, is_open}
 use Rattle.rules.specs.Book.{after}
 use Rattle.rules.specs.Records.{read_record}
 use Rattle.rules.specs.Session.{records_of, record_refusal, read_step}
-use Rattle.month.specs.Words.{words_after}
+use Rattle.month.specs.Words.{words_after, OfWords}
 use Rattle.records_in_place.specs.declared.Taken.{Taken}
 
 -- so many records at most, so that their number fits 32 bits; the next is refused by 15, as in a session run past its limit
@@ -48,7 +48,6 @@ records_sent b bytes = sent_from most_sent 1 b (records_of bytes)
 -- What records promise of a month's words: for every list of calls whose month they are, the words of the list with the taken records' event
 -- calls after it, with what follows the words kept; how many were taken; and the number that refuses the next.
 pub record SendsRecords (words records words' : List ℕ) (r : Taken) : Type 0 where
-  pub month : (calls : List Call) → take 2464 words ≡ words_after calls
-      → words' ≡ words_after (calls ++ (records_sent (after paper calls) records).calls) ++ drop 2464 words
-  pub count : (calls : List Call) → take 2464 words ≡ words_after calls → r.count ≡ length (records_sent (after paper calls) records).calls
-  pub refusal : (calls : List Call) → take 2464 words ≡ words_after calls → r.refusal ≡ (records_sent (after paper calls) records).refusal
+  pub month : OfWords words (λ calls. words' ≡ words_after (calls ++ (records_sent (after paper calls) records).calls) ++ drop 2464 words)
+  pub count : OfWords words (λ calls. r.count ≡ length (records_sent (after paper calls) records).calls)
+  pub refusal : OfWords words (λ calls. r.refusal ≡ (records_sent (after paper calls) records).refusal)

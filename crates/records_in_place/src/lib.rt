@@ -57,11 +57,7 @@ fn run(words: &mut [u32], hints: &mut [u8], records: &[u8]) -> Taken
 fn counted(count: u64, more: u64) -> u64
     ensures { result ≡ count_after more count }
 {
-    let left = 18446744073709551615 - count;
-    if more <= left {
-        return count + more;
-    }
-    more - left - 1
+    count.wrapping_add(more)
 }
 
 // So many more accepted calls, in the count's two words.

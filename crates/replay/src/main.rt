@@ -11,22 +11,25 @@ ghost use Rattle.month.specs.Represents.{Reached};
 ghost use Rattle.words.specs.Bytes.{words_in};
 ghost use Rattle.replay.specs.Pieces.{Plays, Answers};
 
-use call_step::{Outcome, Shown};
-use console::{field_line, number, text};
+use call_step::Reply;
 use month::Month;
-use replay_pieces::Rest;
-use std::io::Stdin;
+use replay_lines::{AskedLine, CellLine, OutlookLine, ReportLine};
+use replay_pieces::Stuck;
+use rules::Refusal;
+use std::io;
+use std::io::Read;
 
-fn line(shown: Shown) {
-    let outcome = shown.outcome;
-    let report = shown.report;
-    match outcome {
-        Outcome::Accepted => text(b"accepted\n"),
-        Outcome::Refused(n) => field_line(b"refused ", n),
-        Outcome::Found(view) => replay_lines::cell_line(view),
-        Outcome::Asked(preview) => replay_lines::asked_line(preview),
-        Outcome::Reported => replay_lines::report_line(report),
-        Outcome::Outlook(outlook) => replay_lines::outlook_line(outlook),
+// Room for the longest block.
+const ROOM: usize = 262144;
+
+fn line(rt: &impl Print, shown: Result<Reply, Refusal>) -> io::Result<()> {
+    match shown {
+        Ok(Reply::Done) => println!(rt; "accepted"),
+        Ok(Reply::Cell(view)) => rt.println(CellLine(view)),
+        Ok(Reply::Asked(preview)) => rt.println(AskedLine(preview)),
+        Ok(Reply::Report(report)) => rt.println(ReportLine(report)),
+        Ok(Reply::Outlook(outlook)) => rt.println(OutlookLine(outlook)),
+        Err(refusal) => println!(rt; "refused {}", u32::from(refusal)),
     }
 }
 
@@ -37,9 +40,10 @@ struct Played {
     words: usize,
 }
 
-// Runs the calls of a piece on a month.
-fn play(from: Month, bytes: &[u8]) -> Played
-    requires { Reached from }
+// Runs the calls of a piece on a month, and shows each answer. A `loop`, since it counts nothing: the next place is what the block says.
+fn play<F: FnMut(Result<Reply, Refusal>)>(from: Month, bytes: &[u8], mut show: F) -> Played
+    requires month { Reached from }
+    requires show { F.IsAlwaysCallable show }
     ensures { Plays from (words_in bytes.now) result × (4 * result.words ≤ length bytes.now) }
 {
     let mut month = from;
@@ -50,87 +54,68 @@ fn play(from: Month, bytes: &[u8]) -> Played
         if next == at {
             return Played { month, words: at };
         }
-        let shown = done.shown;
-        line(shown);
+        show(done.shown);
         month = done.month;
         at = next;
     }
 }
 
-fn stopped(word: u64) {
-    text(b"stopped at word ");
-    number(word);
-    text(b"\n");
-}
-
-// Whether what is left can't become a call; then the last line says so, with the word at which it begins.
-fn is_last(bytes: &[u8], room: usize, word: u64) -> bool {
-    let rest = replay_pieces::rest_is(bytes, room);
-    match rest {
-        Rest::More => false,
-        Rest::NoCall => {
-            stopped(word);
-            true
-        }
-        Rest::TooLong => {
-            text(b"too long\n");
-            true
-        }
-    }
-}
-
-// At the end of the input: whether a block is cut short.
-fn cut_short(held: usize, word: u64) {
-    if 0 < held {
-        stopped(word);
-    }
-}
-
 // Runs the calls that are whole among the bytes before an end, and moves what is left of those bytes to the front.
-fn answer(month: Month, bytes: &mut [u8], end: usize) -> Played
-    requires { Reached month × (end ≤ length bytes.old) }
+fn answer<F: FnMut(Result<Reply, Refusal>)>(
+    month: Month,
+    bytes: &mut [u8],
+    end: usize,
+    show: F,
+) -> Played
+    requires month { Reached month }
+    requires end { end ≤ length bytes.old }
+    requires show { F.IsAlwaysCallable show }
     ensures { Answers month end bytes.old bytes.new result }
 {
-    let done = play(month, &bytes[..end]);
+    let done = play(month, &bytes[..end], show);
     let read = done.words;
     replay_pieces::to_front(bytes, 4 * read, end);
     done
 }
 
+fn stopped(rt: &impl Print, word: u64) -> io::Result<()> {
+    println!(rt; "stopped at word {word}")
+}
+
 // Reads what has come, after what is held in the buffer and not answered yet, and answers the calls that are whole, to the end of the input
-// or to what is no call. `word` is the first word held, counted from 1. The loop ends for its bound alone only at 2^62 words, which no
-// input reaches.
-fn stream(input: &mut Stdin, bytes: &mut [u8]) {
+// or to what is no call. A read that fails counts as the end. `word` is the first word held, counted from 1.
+fn stream(rt: &impl Print, input: &mut impl Read, bytes: &mut [u8]) -> io::Result<()> {
     let room = bytes.len() / 4;
     let mut month = Month::fresh();
     let mut held: usize = 0;
     let mut word: u64 = 1;
-    while word < 4611686018427387904 {
-        let got = console::read_more(input, bytes, held);
+    for _ in 0..u64::MAX {
+        let got = input.read(&mut bytes[held..]).unwrap_or(0);
         if got == 0 {
-            cut_short(held, word);
-            return;
+            break;
         }
         let end = held + got;
-        let done = answer(month, bytes, end);
-        let read = done.words;
+        let mut written = Ok(());
+        let done = answer(month, bytes, end, |shown| {
+            if written.is_ok() {
+                written = line(rt, shown);
+            }
+        });
+        written?;
         month = done.month;
-        word += read as u64;
-        held = end - 4 * read;
-        if is_last(&bytes[..held], room, word) {
-            return;
+        held = end - 4 * done.words;
+        word = word.saturating_add(done.words as u64);
+        match replay_pieces::rest_is(&bytes[..held], room) {
+            Ok(()) => {}
+            Err(Stuck::NoCall) => return stopped(rt, word),
+            Err(Stuck::TooLong) => return println!(rt; "too long"),
         }
     }
+    // A block is cut short where some of it is held.
+    if 0 < held { stopped(rt, word) } else { Ok(()) }
 }
 
-// Room for the longest block.
-fn room() -> [u8; 262144]
-    ensures { 262144 ≡ length result }
-{
-    [0; 262144]
-}
-
-fn main(rt: HostRuntime) {
-    let mut bytes = room();
-    stream(&mut rt.stdin(), &mut bytes);
+fn main(rt: HostRuntime) -> io::Result<()> {
+    let mut bytes = vec![in rt.alloc(); 0u8; ROOM]?;
+    stream(&rt, &mut rt.stdin(), &mut bytes)
 }

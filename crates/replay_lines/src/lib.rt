@@ -1,134 +1,159 @@
 // The lines of the answers that are more than accepted or refused: a cell, a report, an ask's preview, an outlook.
 #![tactic(auto)]
 
-use console::{field, field_line, number, price, text};
-use rules::{CellView, Kopecks, LapsesLeft, Outlook, Possible, Preview, Quote, Report, Ticket};
+use rules::{CellView, LapsesLeft, Millis, Outlook, Preview, Report, Steps, Ticket};
+use std::fmt;
 
-fn amount(name: &[u8], k: Kopecks) {
-    text(name);
-    number(k.0);
-}
+// A best quote's price, or that there is none.
+#[derive(Clone, Copy)]
+struct Best(Option<Steps>);
 
-fn quote(q: Quote) {
-    match q {
-        Quote::Absent => text(b"absent"),
-        Quote::At(p) => price(p),
+impl fmt::Display for Best {
+    fn fmt<W: fmt::Write>(&self, f: &mut fmt::Formatter<W>) -> fmt::Result {
+        match self.0 {
+            None => write!(f, "absent"),
+            Some(p) => write!(f, "{}", p.0),
+        }
     }
 }
 
-fn choice(is_first: bool, first: &[u8], second: &[u8]) {
-    if is_first {
-        text(first);
-    } else {
-        text(second);
+// A time, or that there is none.
+#[derive(Clone, Copy)]
+struct Until(Option<Millis>);
+
+impl fmt::Display for Until {
+    fn fmt<W: fmt::Write>(&self, f: &mut fmt::Formatter<W>) -> fmt::Result {
+        match self.0 {
+            None => write!(f, "never"),
+            Some(t) => write!(f, "{}", t.0),
+        }
     }
 }
 
-fn allowed(n: u32) {
-    if n == 65535 {
-        text(b" limit none");
-    } else {
-        field(b" limit ", n);
+// A limit of lapses; 65,535 is none.
+#[derive(Clone, Copy)]
+struct Limit(u32);
+
+impl fmt::Display for Limit {
+    fn fmt<W: fmt::Write>(&self, f: &mut fmt::Formatter<W>) -> fmt::Result {
+        let n = self.0;
+        if n == 65535 {
+            write!(f, "none")
+        } else {
+            write!(f, "{n}")
+        }
     }
 }
 
-pub fn cell_line(view: CellView) {
-    let cell = view.cell;
-    let kept = cell.kept;
-    let length = cell.length;
-    field(b"cell kept ", kept.0);
-    field(b" of ", length.0);
-    field(b" share ", cell.share);
-    field(b" lapses ", cell.lapses);
-    allowed(cell.allowed);
-    amount(b" active ", cell.active);
-    amount(b" passive ", cell.passive);
-    choice(view.met, b" verdict met", b" verdict failed");
-    field_line(b" weight ", view.weight);
-}
+#[derive(Clone, Copy)]
+struct Left(LapsesLeft);
 
-fn failed(counts: [u32; 6]) {
-    field(b" failed ", counts[0]);
-    field(b" ", counts[1]);
-    field(b" ", counts[2]);
-    field(b" ", counts[3]);
-    field(b" ", counts[4]);
-    field(b" ", counts[5]);
-}
-
-pub fn report_line(report: Report) {
-    let time = report.time;
-    let kept = report.kept;
-    let bid = report.bid;
-    let ask = report.ask;
-    let failures = report.failures;
-    choice(report.running, b"report open yes", b"report open no");
-    field(b" time ", time.0);
-    field(b" orders ", report.orders);
-    text(b" bid ");
-    quote(bid);
-    text(b" ask ");
-    quote(ask);
-    field(b" kept ", kept.0);
-    field(b" lapses ", report.lapses);
-    failed(failures);
-    amount(b" fee ", report.fee);
-    text(b"\n");
-}
-
-fn ticket_fields(ticket: Ticket) {
-    let a = ticket.amendment;
-    let t = a.t;
-    let volume = a.volume;
-    field(b" ticket ", t.0);
-    field(b" ", a.id);
-    text(b" ");
-    price(a.price);
-    field(b" ", volume.0);
-    text(b" count ");
-    number(ticket.count);
-}
-
-pub fn asked_line(preview: Preview) {
-    let bid = preview.bid;
-    let ask = preview.ask;
-    text(b"asked bid ");
-    quote(bid);
-    text(b" ask ");
-    quote(ask);
-    ticket_fields(preview.ticket);
-    text(b"\n");
-}
-
-fn possible(name: &[u8], found: Possible) {
-    text(name);
-    match found {
-        Possible::Never => text(b"never"),
-        Possible::At(m) => field(b"", m.0),
+impl fmt::Display for Left {
+    fn fmt<W: fmt::Write>(&self, f: &mut fmt::Formatter<W>) -> fmt::Result {
+        match self.0 {
+            LapsesLeft::Unlimited => write!(f, "none"),
+            LapsesLeft::Over => write!(f, "over"),
+            LapsesLeft::Left(n) => write!(f, "{n}"),
+        }
     }
 }
 
-fn lapses_left(left: LapsesLeft) {
-    match left {
-        LapsesLeft::Unlimited => text(b" lapses none"),
-        LapsesLeft::Over => text(b" lapses over"),
-        LapsesLeft::Left(n) => field(b" lapses ", n),
+fn yes_or_no(is: bool) -> &'static str {
+    if is { "yes" } else { "no" }
+}
+
+#[derive(Clone, Copy)]
+pub struct CellLine(pub CellView);
+
+impl fmt::Display for CellLine {
+    fn fmt<W: fmt::Write>(&self, f: &mut fmt::Formatter<W>) -> fmt::Result {
+        let view = self.0;
+        let cell = view.cell;
+        let verdict = if view.met { "met" } else { "failed" };
+        write!(
+            f,
+            "cell kept {} of {} share {}",
+            cell.kept.0, cell.length.0, cell.share
+        )?;
+        write!(f, " lapses {} limit {}", cell.lapses, Limit(cell.allowed))?;
+        write!(f, " active {} passive {}", cell.active.0, cell.passive.0)?;
+        write!(f, " verdict {verdict} weight {}", view.weight)
     }
 }
 
-pub fn outlook_line(outlook: Outlook) {
-    let need = outlook.need;
-    let left = outlook.left;
-    let by = outlook.by;
-    let full = outlook.full;
-    let lapses = outlook.lapses;
-    field(b"outlook need ", need.0);
-    field(b" left ", left.0);
-    possible(b" by ", by);
-    possible(b" full ", full);
-    lapses_left(lapses);
-    choice(outlook.rest, b" rest yes", b" rest no");
-    choice(outlook.lost, b" lost yes", b" lost no");
-    field(b" weight ", outlook.resting);
-    field_line(b" ", outlook.keeping);
+#[derive(Clone, Copy)]
+pub struct ReportLine(pub Report);
+
+impl fmt::Display for ReportLine {
+    fn fmt<W: fmt::Write>(&self, f: &mut fmt::Formatter<W>) -> fmt::Result {
+        let report = self.0;
+        write!(
+            f,
+            "report open {} time {}",
+            yes_or_no(report.running),
+            report.time.0
+        )?;
+        write!(
+            f,
+            " orders {} bid {} ask {}",
+            report.orders,
+            Best(report.bid),
+            Best(report.ask)
+        )?;
+        write!(f, " kept {} lapses {} failed", report.kept.0, report.lapses)?;
+        for count in report.failures {
+            write!(f, " {count}")?;
+        }
+        write!(f, " fee {}", report.fee.0)
+    }
+}
+
+#[derive(Clone, Copy)]
+struct Amendment(Ticket);
+
+impl fmt::Display for Amendment {
+    fn fmt<W: fmt::Write>(&self, f: &mut fmt::Formatter<W>) -> fmt::Result {
+        let ticket = self.0;
+        let a = ticket.amendment;
+        write!(
+            f,
+            "{} {} {} {} count {}",
+            a.t.0, a.id, a.price.0, a.volume.0, ticket.count
+        )
+    }
+}
+
+#[derive(Clone, Copy)]
+pub struct AskedLine(pub Preview);
+
+impl fmt::Display for AskedLine {
+    fn fmt<W: fmt::Write>(&self, f: &mut fmt::Formatter<W>) -> fmt::Result {
+        let preview = self.0;
+        write!(
+            f,
+            "asked bid {} ask {}",
+            Best(preview.bid),
+            Best(preview.ask)
+        )?;
+        write!(f, " ticket {}", Amendment(preview.ticket))
+    }
+}
+
+#[derive(Clone, Copy)]
+pub struct OutlookLine(pub Outlook);
+
+impl fmt::Display for OutlookLine {
+    fn fmt<W: fmt::Write>(&self, f: &mut fmt::Formatter<W>) -> fmt::Result {
+        let outlook = self.0;
+        write!(f, "outlook need {} left {}", outlook.need.0, outlook.left.0)?;
+        write!(f, " by {} full {}", Until(outlook.by), Until(outlook.full))?;
+        write!(f, " lapses {}", Left(outlook.lapses))?;
+        write!(
+            f,
+            " rest {} lost {}",
+            yes_or_no(outlook.rest),
+            yes_or_no(outlook.lost)
+        )?;
+        write!(f, " weight {} {}", outlook.resting, outlook.keeping)
+    }
 }

@@ -5,29 +5,28 @@ ghost use Rattle.std.specs.Prelude.{◌≡◌, ◌-◌, ◌≤◌, length, take,
 ghost use Rattle.words.specs.Bytes.{words_in};
 ghost use Rattle.replay_pieces.specs.Rests.{rest_of};
 
-// What stands behind the calls that are read: what may become a call, what is none, or a block that is longer than the buffer.
-#[derive(Clone, Copy)]
-pub enum Rest {
-    More,
+// Why what stands behind the calls that are read can't become a call: it is none, or its block is longer than the buffer.
+#[derive(Clone, Copy, Debug)]
+pub enum Stuck {
     NoCall,
     TooLong,
 }
 
-// What is left of a piece, in a buffer of so many words.
-pub fn rest_is(bytes: &[u8], room: usize) -> Rest
+// Whether what is left of a piece may become a call, in a buffer of so many words.
+pub fn rest_is(bytes: &[u8], room: usize) -> Result<(), Stuck>
     ensures { result ≡ rest_of room (words_in bytes.now) }
 {
     if !call_blocks::told(bytes) {
-        return Rest::More;
+        return Ok(());
     }
     let due = call_blocks::due_words(bytes);
     if due == 0 {
-        return Rest::NoCall;
+        return Err(Stuck::NoCall);
     }
     if room < due {
-        return Rest::TooLong;
+        return Err(Stuck::TooLong);
     }
-    Rest::More
+    Ok(())
 }
 
 // Moves the bytes from a place to an end to the front. A block that stands there stays, so that a long one in small pieces moves once.
@@ -35,14 +34,7 @@ pub fn to_front(bytes: &mut [u8], from: usize, end: usize)
     requires { (from ≤ end) × (end ≤ length bytes.old) }
     ensures { take (end - from) bytes.new ≡ take (end - from) (drop from bytes.old) }
 {
-    if from == 0 {
-        return;
-    }
-    let n = end - from;
-    let mut i: usize = 0;
-    while i < n {
-        let b = bytes[from + i];
-        bytes[i] = b;
-        i += 1;
+    if 0 < from {
+        bytes.copy_within(from..end, 0);
     }
 }

@@ -1,6 +1,6 @@
 -- The theorem about old months: with p multiplied by ten, the terms in tenths of a percent answer each call as the terms in percent did.
 -- One relation between the two books, equal but that p is ten times as large, holds from call to call.
-use Rattle.std.specs.Prelude.{if◌then◌else◌}
+use Rattle.std.specs.Prelude.{if◌then◌else◌, None, Option, Some}
 use Prim.Native.Nat.{ℕ, zero, suc, ◌+◌, ◌-◌, ◌*◌, ◌/◌, ◌^◌, ◌≤◌, ◌<◌, min}
 use native.Mathlib.Omega.{arith}
 use mathlib.Core.Path.{◌≡◌, refl, sym, ap, ◌∙◌}
@@ -10,11 +10,9 @@ use lib.Dec.{leb, ltb, eqb}
 use lib.ListN.{length, get_or, set, replicate, length-set, get_or-map}
 use lib.Seq.{get_or-set_same, get_or-set_other}
 use borrow.Author.Tests.{leb-true, le-leb, eqb-true, eq-eqb}
+use Rattle.rules.specs.declared.Steps.{Steps}
 use Rattle.rules.specs.declared.Opening.{Opening}
 use Rattle.rules.specs.declared.Kopecks.{Kopecks}
-use Rattle.rules.specs.declared.Quote.{Quote}
-use Rattle.rules.specs.declared.Quote.TheVariants.{Absent, At}
-use Rattle.rules.specs.declared.Possible.TheVariants as P
 use Rattle.rules.specs.declared.Row.{Row}
 use Rattle.rules.specs.declared.Cell.{Cell}
 use Rattle.rules.specs.declared.SpreadRule.{SpreadRule}
@@ -100,12 +98,12 @@ module _ (most : ℕ) where
 
 -- ---- kept time does not read p
 
-quotes_same : (row : Row) (spread : SpreadRule) (bid ask : Quote) → quotes_keep (tenfold_row row) spread bid ask ≡ quotes_keep row spread bid ask
+quotes_same : (row : Row) (spread : SpreadRule) (bid ask : Option Steps) → quotes_keep (tenfold_row row) spread bid ask ≡ quotes_keep row spread bid ask
 unfolding quotes_keep
-quotes_same row spread Absent ask = refl
-quotes_same row spread (At bid) Absent = refl
-quotes_same row (Settled sp) (At bid) (At ask) = refl
-quotes_same row (OfStrike s) (At bid) (At ask) = refl
+quotes_same row spread None ask = refl
+quotes_same row spread (Some bid) None = refl
+quotes_same row (Settled sp) (Some bid) (Some ask) = refl
+quotes_same row (OfStrike s) (Some bid) (Some ask) = refl
 
 kept-at-same : (row : Row) (spread : SpreadRule) (events : List Event) → kept_at (tenfold_row row) spread events ≡ kept_at row spread events
 unfolding kept_at orders_keep
@@ -291,7 +289,7 @@ module _ (most : ℕ) (row : Row) (opening : Opening) (events : List Event) wher
       λ i.
       let n = full_need_of (kept_same row opening.spread events t i) row.length.0 in
       if leb n left && within_lapse_limit opening.allowed (lapses-same row opening.spread events t i)
-      && (eqb n 0 || can_keep-same row opening.spread i) then P.At (millis n) else P.Never
+      && (eqb n 0 || can_keep-same row opening.spread i) then Some (millis n) else None
 
   keeping_same : weight_keeping (tenths most) (tenfold_row row) opening events ≡ weight_keeping (percents most) row opening events
   unfolding weight_keeping weight_resting

@@ -1,7 +1,7 @@
 // The row: read from words or from the leading bytes of a session, and chosen from the two lent tables.
 #![tactic(auto)]
 
-ghost use Rattle.std.specs.Prelude.{◌≡◌, ◌+◌, ◌*◌, ◌≤◌, length};
+ghost use Rattle.std.specs.Prelude.{◌≡◌, ◌+◌, ◌*◌, ◌≤◌, length, MatchOption};
 ghost use Rattle.rules.specs.Terms.{paper};
 ghost use Rattle.rules.specs.Rows.{good_length, good_row, as_read};
 ghost use Rattle.rules.specs.Answers.{shown_row};
@@ -9,17 +9,16 @@ ghost use Rattle.rules.specs.Causes.{read_row};
 ghost use Rattle.rules.specs.Session.{leading_words, leading_price};
 ghost use Rattle.rules.specs.Choosing.{row_words, is_for, first_row, chosen_row};
 ghost use Rattle.row.specs.Starts.{start_in, chosen_start};
-ghost use Rattle.row.specs.Internal.{FirstRowAt};
+ghost use Rattle.row.specs.Internal.{NoRowFor, FirstRowAt};
 
-use numbers::both;
-use ranges::{at_most, between};
-use rules::{Contracts, Millis, Refusal, Row, RowRead, SpreadRule, Steps};
+use ranges::between;
+use rules::{Contracts, Millis, Refusal, Row, SpreadRule, Steps};
 
 // Whether L is in a row's range.
 pub fn is_length(l: u32) -> bool
     ensures { result ≡ good_length l }
 {
-    both(between(1000, 86400000, l), l % 1000 == 0)
+    between(1000, 86400000, l) & (l % 1000 == 0)
 }
 
 // Whether each word of a row is in its range.
@@ -28,12 +27,13 @@ fn is_good(row: Row) -> bool
 {
     let length = row.length;
     let minimum = row.minimum;
-    let good = both(between(1, 2, row.expiry), at_most(row.quantum, 2));
-    let good = both(good, is_length(length.0));
-    let good = both(good, between(1, 100000, minimum.0));
-    let good = both(good, at_most(row.a, 100000));
-    let good = both(good, at_most(row.b, 1000000));
-    both(good, between(1, 799, row.share))
+    between(1, 2, row.expiry)
+        & (row.quantum <= 2)
+        & is_length(length.0)
+        & between(1, 100000, minimum.0)
+        & (row.a <= 100000)
+        & (row.b <= 1000000)
+        & between(1, 799, row.share)
 }
 
 // The row as open reads it: a strike's leaves a and b unread.
@@ -42,21 +42,16 @@ fn as_read(row: Row, spread: SpreadRule) -> Row
 {
     match spread {
         SpreadRule::Settled(_) => row,
-        SpreadRule::OfStrike(_) => {
-            let mut read = row;
-            read.a = 0;
-            read.b = 0;
-            read
-        }
+        SpreadRule::OfStrike(_) => Row { a: 0, b: 0, ..row },
     }
 }
 
 // Reading a row for an open that is given SP or a strike: the row, or refusal 1 or 2.
-pub fn read(words: &[u32], spread: SpreadRule) -> RowRead
+pub fn read(words: &[u32], spread: SpreadRule) -> Result<Row, Refusal>
     ensures { shown_row result ≡ read_row paper spread words.now }
 {
     if words.len() != 7 {
-        return RowRead::Refused(Refusal::RowNotSevenWords);
+        return Err(Refusal::RowNotSevenWords);
     }
     let row = Row {
         expiry: words[0],
@@ -68,9 +63,9 @@ pub fn read(words: &[u32], spread: SpreadRule) -> RowRead
         share: words[6],
     };
     if is_good(as_read(row, spread)) {
-        return RowRead::Read(row);
+        return Ok(row);
     }
-    RowRead::Refused(Refusal::RowWordOutOfRange)
+    Err(Refusal::RowWordOutOfRange)
 }
 
 // The head of a session, 32 bytes: the row's seven words, then SP.
@@ -103,22 +98,19 @@ fn is_for(table: &[u32], k: usize, expiry: u32, quantum: u32) -> bool
     ensures { result ≡ is_for expiry quantum (row_words table.now k) }
 {
     let at = 7 * k;
-    both(table[at] == expiry, table[at + 1] == quantum)
+    (table[at] == expiry) & (table[at + 1] == quantum)
 }
 
-// The first full row with that expiry and quantum, counted from 0; the number of full rows where there is none.
-fn find(table: &[u32], expiry: u32, quantum: u32) -> usize
-    ensures { FirstRowAt expiry quantum table.now result }
+// The first full row with that expiry and quantum, counted from 0.
+fn find(table: &[u32], expiry: u32, quantum: u32) -> Option<usize>
+    ensures { MatchOption result (NoRowFor expiry quantum table.now) (FirstRowAt expiry quantum table.now) }
 {
-    let n = table.len() / 7;
-    let mut k = 0;
-    while k < n {
+    for k in 0..table.len() / 7 {
         if is_for(table, k, expiry, quantum) {
-            return k;
+            return Some(k);
         }
-        k += 1;
     }
-    k
+    None
 }
 
 // The seven words of that row, or an empty part.
@@ -126,13 +118,10 @@ fn first(table: &[u32], expiry: u32, quantum: u32) -> &[u32]
     ensures words { result.now ≡ first_row expiry quantum table.now }
     ensures place { result.ref_ptr ≡ start_in expiry quantum table.entry.ref_ptr table.now }
 {
-    let k = find(table, expiry, quantum);
-    if k < table.len() / 7 {
-        let from = 7 * k;
-        let to = from + 7;
-        return &table[from..to];
+    match find(table, expiry, quantum) {
+        None => &table[0..0],
+        Some(k) => &table[7 * k..7 * k + 7],
     }
-    &table[0..0]
 }
 
 // Choosing the row: seven words of one of two lent tables, or an empty part; and of which table it is a part, and where it starts.
@@ -150,7 +139,7 @@ pub fn choose<'r>(
         return first(usual, expiry, quantum);
     }
     let part = first(holiday, expiry, quantum);
-    if part.len() == 0 {
+    if part.is_empty() {
         return first(usual, expiry, quantum);
     }
     part

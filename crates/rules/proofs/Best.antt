@@ -1,5 +1,5 @@
 -- What `best` means, and when it stays.
-use Rattle.std.specs.Prelude.{if◌then◌else◌}
+use Rattle.std.specs.Prelude.{if◌then◌else◌, None, Option, Some}
 use Prim.Native.Nat.{ℕ, ◌+◌}
 use native.Mathlib.Omega.{arith}
 use mathlib.Core.Path.{◌≡◌, refl, sym, ap, ◌∙◌, subst, fun_ext}
@@ -10,8 +10,6 @@ use mathlib.Core.Bool.{Bool, true, false, false≢true}
 use lib.Dec.{leb}
 use lib.IntN.{ℤ}
 use Rattle.rules.specs.declared.Side.{Side}
-use Rattle.rules.specs.declared.Quote.{Quote}
-use Rattle.rules.specs.declared.Quote.TheVariants.{Absent, At}
 use Rattle.rules.specs.declared.Order.{Order}
 use Rattle.rules.specs.declared.Steps.{Steps}
 use Rattle.lists.specs.Lists.{sum, filter}
@@ -36,9 +34,9 @@ depth-one s p o = go (in_depth s p o)
 -- ---- what the lead means
 
 -- of the price of each order
-abbrev Leads : Side → List Order → Quote → Type 0
-Leads s xs Absent = (o : Order) → Memᴰ o xs → ⊥
-Leads s xs (At p) =
+abbrev Leads : Side → List Order → Option Steps → Type 0
+Leads s xs None = (o : Order) → Memᴰ o xs → ⊥
+Leads s xs (Some p) =
     ((o : Order) × Memᴰ o xs × (o.price ≡ p)) × ((o : Order) → Memᴰ o xs → at_least s p.0 o.price.0 ≡ true)
 
 leads : (s : Side) (xs : List Order) → Leads s xs (lead s xs)
@@ -51,15 +49,15 @@ leads s (x ∷ xs) = first (lead s xs) (leads s xs)
     all p e h o (Memᴰ.head q) = rw q e
     all p e h o (Memᴰ.tail k) = h o k
 
-    choose : (q : Steps) (b : Bool) → at_least s x.price.0 q.0 ≡ b → Leads s xs (At q) → Leads s (x ∷ xs) (if b then At x.price else At q)
+    choose : (q : Steps) (b : Bool) → at_least s x.price.0 q.0 ≡ b → Leads s xs (Some q) → Leads s (x ∷ xs) (if b then Some x.price else Some q)
     choose q true e h =
         ((x, Memᴰ.head refl, refl), all x.price.0 (at_least_refl s x.price.0) (λ o k. at_least_trans s x.price.0 q.0 o.price.0 e (h.1 o k)))
     choose q false e h =
         ((h.0.0, Memᴰ.tail h.0.1, h.0.2), all q.0 (at_least-total s x.price.0 q.0 e) h.1)
 
-    first : (y : Quote) → Leads s xs y → Leads s (x ∷ xs) (better s (At x.price) y)
-    first Absent h = ((x, Memᴰ.head refl, refl), all x.price.0 (at_least_refl s x.price.0) (λ o k. absurd (h o k)))
-    first (At q) h = choose q (at_least s x.price.0 q.0) refl h
+    first : (y : Option Steps) → Leads s xs y → Leads s (x ∷ xs) (better s (Some x.price) y)
+    first None h = ((x, Memᴰ.head refl, refl), all x.price.0 (at_least_refl s x.price.0) (λ o k. absurd (h o k)))
+    first (Some q) h = choose q (at_least s x.price.0 q.0) refl h
 
 -- `best` means what the paper says ..
 pub means : (s : Side) (m : ℕ) (orders : List Order) → Means s m orders (best s m orders)
@@ -73,29 +71,29 @@ means s m orders = go (lead s (filter ok orders)) (leads s (filter ok orders))
     fails o true e h = absurd (h e)
     fails o false e h = e
 
-    go : (y : Quote) → Leads s (filter ok orders) y → Means s m orders y
-    go Absent h = λ o k. fails o (ok o) refl (λ e. h o (in_kept ok k e))
-    go (At p) h =
+    go : (y : Option Steps) → Leads s (filter ok orders) y → Means s m orders y
+    go None h = λ o k. fails o (ok o) refl (λ e. h o (in_kept ok k e))
+    go (Some p) h =
         let k = kept_in_lem ok orders h.0.1 in
         ((h.0.0, k.0, k.1, h.0.2), λ o k e. h.1 o (in_kept ok k e))
 
 -- .. and is the only quote that does
-pub meant : (s : Side) (m : ℕ) (orders : List Order) (q : Quote) → Means s m orders q → q ≡ best s m orders
+pub meant : (s : Side) (m : ℕ) (orders : List Order) (q : Option Steps) → Means s m orders q → q ≡ best s m orders
 meant s m orders q h = go q (best s m orders) h (means s m orders)
   where
-    go : (x y : Quote) → Means s m orders x → Means s m orders y → x ≡ y
-    go Absent Absent h k = refl
-    go Absent (At q) h k = absurd (false≢true (sym (h k.0.0 k.0.1) ∙ k.0.2))
-    go (At p) Absent h k = absurd (false≢true (sym (k h.0.0 h.0.1) ∙ h.0.2))
-    go (At p) (At q) h k =
+    go : (x y : Option Steps) → Means s m orders x → Means s m orders y → x ≡ y
+    go None None h k = refl
+    go None (Some q) h k = absurd (false≢true (sym (h k.0.0 k.0.1) ∙ k.0.2))
+    go (Some p) None h k = absurd (false≢true (sym (k h.0.0 h.0.1) ∙ h.0.2))
+    go (Some p) (Some q) h k =
         let a : at_least s p.0 q.0 ≡ true = rw (← k.0.3) (h.1 k.0.0 k.0.1 k.0.2) in
         let b : at_least s q.0 p.0 ≡ true = rw (← h.0.3) (k.1 h.0.0 h.0.1 h.0.2) in
-        ap (λ (z : ℤ). At (record { 0 = z })) (at_least_antisym s p.0 q.0 a b)
+        ap (λ (z : ℤ). Some (record { 0 = z })) (at_least_antisym s p.0 q.0 a b)
 
 -- absent exactly when no order of the side qualifies
 pub absent : (s : Side) (m : ℕ) (orders : List Order)
-    → (best s m orders ≡ Absent) ↔ ((o : Order) → Memᴰ o orders → qualifies s m orders o ≡ false)
-absent s m orders = (λ e. subst (Means s m orders) e (means s m orders), λ h. sym (meant s m orders Absent h))
+    → (best s m orders ≡ None) ↔ ((o : Order) → Memᴰ o orders → qualifies s m orders o ≡ false)
+absent s m orders = (λ e. subst (Means s m orders) e (means s m orders), λ h. sym (meant s m orders None h))
 
 -- ---- the orders of its side alone
 

@@ -1,6 +1,6 @@
 -- Laws of kept time: events at or before a millisecond are all seen at it, a later one is not; a locked or crossed quote is never
 -- kept.
-use Rattle.std.specs.Prelude.{if◌then◌else◌}
+use Rattle.std.specs.Prelude.{if◌then◌else◌, Option, Some}
 use Prim.Native.Nat.{ℕ, zero, suc, ◌+◌, ◌-◌, ◌≤◌, ◌<◌}
 use native.Mathlib.Omega.{arith}
 use mathlib.Core.Path.{◌≡◌, refl, ap, ◌∙◌}
@@ -11,8 +11,6 @@ use lib.IntN.{ℤ, pos, negsuc}
 use lib.Signed.{lt_z}
 use borrow.Author.Tests.{le-leb, lt-leb, ltb-true}
 use Rattle.rules.specs.declared.Steps.{Steps}
-use Rattle.rules.specs.declared.Quote.{Quote}
-use Rattle.rules.specs.declared.Quote.TheVariants.{At}
 use Rattle.rules.specs.declared.Row.{Row}
 use Rattle.rules.specs.declared.SpreadRule.{SpreadRule}
 use Rattle.rules.specs.declared.Event.{Event}
@@ -84,12 +82,12 @@ below_one row sp (negsuc d) h = refl
 
 -- a millisecond whose best bid is at its best ask or above it is not kept
 pub crossed_not_kept : (row : Row) (sp : SpreadRule) (es : List Event) (m : ℕ) (bid ask : Steps)
-    → best_bid row (live (up_to m es)) ≡ At bid → best_ask row (live (up_to m es)) ≡ At ask
+    → best_bid row (live (up_to m es)) ≡ Some bid → best_ask row (live (up_to m es)) ≡ Some ask
     → lt_z (gap bid.0 ask.0) (pos 1) ≡ true → kept_at row sp es m ≡ false
 unfolding kept_at orders_keep quotes_keep
 crossed_not_kept row sp es m bid ask b a h =
-    ap (λ (q : Quote). quotes_keep row sp q (best_ask row (live (up_to m es)))) b
-    ∙ ap (quotes_keep row sp (At bid)) a
+    ap (λ (q : Option Steps). quotes_keep row sp q (best_ask row (live (up_to m es)))) b
+    ∙ ap (quotes_keep row sp (Some bid)) a
     ∙ below_one row sp (gap bid.0 ask.0) h
 
 -- ---- kept time

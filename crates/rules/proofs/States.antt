@@ -1,13 +1,12 @@
 -- The states of a millisecond: the one state kept is the papers' kept.
-use Rattle.std.specs.Prelude.{if◌then◌else◌}
+use Rattle.std.specs.Prelude.{if◌then◌else◌, None, Option, Some}
 use Prim.Native.Nat.{ℕ, ◌≤◌, ◌<◌}
 use mathlib.Core.Path.{◌≡◌, refl, ap}
 use mathlib.Core.List.{List, [], ◌∷◌, ◌++◌}
 use mathlib.Core.Bool.{Bool, true, false, ◌&&◌}
 use lib.IntN.{ℤ, pos}
 use lib.Signed.{le_z}
-use Rattle.rules.specs.declared.Quote.{Quote}
-use Rattle.rules.specs.declared.Quote.TheVariants.{Absent, At}
+use Rattle.rules.specs.declared.Steps.{Steps}
 use Rattle.rules.specs.declared.Order.{Order}
 use Rattle.rules.specs.declared.Row.{Row}
 use Rattle.rules.specs.declared.SpreadRule.{SpreadRule}
@@ -27,12 +26,12 @@ spread-kept row spread d = go (le_z (pos 1) d) (spread_within row spread d)
     go false true = refl
     go false false = refl
 
-quotes_kept : (row : Row) (spread : SpreadRule) (bid ask : Quote) → is_kept (quotes_state row spread bid ask) ≡ quotes_keep row spread bid ask
+quotes_kept : (row : Row) (spread : SpreadRule) (bid ask : Option Steps) → is_kept (quotes_state row spread bid ask) ≡ quotes_keep row spread bid ask
 unfolding quotes_state quotes_keep
-quotes_kept row spread Absent Absent = refl
-quotes_kept row spread Absent (At ask) = refl
-quotes_kept row spread (At bid) Absent = refl
-quotes_kept row spread (At bid) (At ask) = spread-kept row spread (gap bid.0 ask.0)
+quotes_kept row spread None None = refl
+quotes_kept row spread None (Some ask) = refl
+quotes_kept row spread (Some bid) None = refl
+quotes_kept row spread (Some bid) (Some ask) = spread-kept row spread (gap bid.0 ask.0)
 
 pub orders_kept : (row : Row) (spread : SpreadRule) (orders : List Order) → is_kept (orders_state row spread orders) ≡ orders_keep row spread orders
 unfolding orders_state orders_keep

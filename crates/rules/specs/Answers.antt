@@ -1,26 +1,14 @@
 -- Document 01, "Refused calls": the numbers, and what each answer shows: its number and values, case by case. That two different
 -- answers never show the same is in proofs/Answers.
-use Rattle.std.specs.Prelude.{ℕ, zero, suc}
+use Rattle.std.specs.Prelude.{ℕ, zero, suc, Result, Ok, Err}
 use Rattle.rules.specs.declared.Row.{Row}
 use Rattle.rules.specs.declared.Event.{Event}
 use Rattle.rules.specs.declared.Refusal.{Refusal}
 use Rattle.rules.specs.declared.Refusal.TheVariants.{RowNotSevenWords, RowWordOutOfRange, ArgumentOutOfRange, CellFilled, CellBlank, QuantumOpen, NoQuantumOpen, TimeBackwards, TimePastEnd, IdLive, IdNotLive, PriceOrVolumeOutOfRange, TooManyOrders, DealAboveLeft, BadRecord, BufferShort, LapseLimitOutOfRange, StrikesOutOfRange, WrongTicket, FrameWrong, FieldWrong}
 use Rattle.rules.specs.declared.CellView.{CellView}
 use Rattle.rules.specs.declared.Report.{Report}
-use Rattle.rules.specs.declared.Answer.{Answer}
-use Rattle.rules.specs.declared.Answer.TheVariants as A
-use Rattle.rules.specs.declared.Looked.{Looked}
-use Rattle.rules.specs.declared.Looked.TheVariants as L
 use Rattle.rules.specs.declared.Preview.{Preview}
-use Rattle.rules.specs.declared.Asked.{Asked}
-use Rattle.rules.specs.declared.Asked.TheVariants as K
 use Rattle.rules.specs.declared.Outlook.{Outlook}
-use Rattle.rules.specs.declared.OutlookAnswer.{OutlookAnswer}
-use Rattle.rules.specs.declared.OutlookAnswer.TheVariants as U
-use Rattle.rules.specs.declared.RowRead.{RowRead}
-use Rattle.rules.specs.declared.RowRead.TheVariants as R
-use Rattle.rules.specs.declared.RecordRead.{RecordRead}
-use Rattle.rules.specs.declared.RecordRead.TheVariants as E
 
 abbrev pub number_of : Refusal → ℕ
 -- the table keeper: row not seven words (or leading bytes not 32); a word outside its range
@@ -76,29 +64,28 @@ pub data Reply : Type 0 where
   report : Report → Reply
   outlook : Outlook → Reply
 
-abbrev pub shown_answer : Answer → Outcome Reply
-shown_answer A.Accepted = accepted done
-shown_answer (A.Refused r) = refused (number_of r)
+-- what is refused shows the refusal's number
+abbrev pub shown : {T R : Type 0} → (T → R) → Result T Refusal → Outcome R
+shown values (Ok x) = accepted (values x)
+shown values (Err r) = refused (number_of r)
 
-abbrev pub shown_looked : Looked → Outcome Reply
-shown_looked (L.Found v) = accepted (cell v)
-shown_looked (L.Refused r) = refused (number_of r)
+abbrev pub shown_answer : Result (Unit {0}) Refusal → Outcome Reply
+shown_answer = shown (λ nothing. done)
 
-abbrev pub shown_asked : Asked → Outcome Reply
-shown_asked (K.Shown p) = accepted (asked p)
-shown_asked (K.Refused r) = refused (number_of r)
+abbrev pub shown_looked : Result CellView Refusal → Outcome Reply
+shown_looked = shown cell
+
+abbrev pub shown_asked : Result Preview Refusal → Outcome Reply
+shown_asked = shown asked
 
 abbrev pub shown_report : Report → Outcome Reply
 shown_report r = accepted (report r)
 
-abbrev pub shown_outlook : OutlookAnswer → Outcome Reply
-shown_outlook (U.Shown o) = accepted (outlook o)
-shown_outlook (U.Refused r) = refused (number_of r)
+abbrev pub shown_outlook : Result Outlook Refusal → Outcome Reply
+shown_outlook = shown outlook
 
-abbrev pub shown_row : RowRead → Outcome Row
-shown_row (R.Read row) = accepted row
-shown_row (R.Refused r) = refused (number_of r)
+abbrev pub shown_row : Result Row Refusal → Outcome Row
+shown_row = shown (λ row. row)
 
-abbrev pub shown_record : RecordRead → Outcome Event
-shown_record (E.Read e) = accepted e
-shown_record (E.Refused r) = refused (number_of r)
+abbrev pub shown_record : Result Event Refusal → Outcome Event
+shown_record = shown (λ e. e)

@@ -2,11 +2,10 @@
 -- D = -1, each with what the definitions give and what the paper prints. That the two agree is proved once, over the list, in proofs/Checks.
 -- After them, two checks on document 02, W1, two on W4, and one on W6: "C6 to C10 and the sheet's example read p 600" would not see a half
 -- percent.
-use Rattle.std.specs.Prelude.{ℕ, ◌+◌, List, [], ◌∷◌, map, Bool, true, false, ℤ, pos, neg_ℤ, set}
+use Rattle.std.specs.Prelude.{ℕ, ◌+◌, List, [], ◌∷◌, map, Bool, true, false, ℤ, pos, neg_ℤ, set, Option, Some}
+use Rattle.rules.specs.declared.Steps.{Steps}
 use Rattle.rules.specs.declared.Side.{Side}
 use Rattle.rules.specs.declared.Side.TheVariants.{Buy, Sell}
-use Rattle.rules.specs.declared.Quote.{Quote}
-use Rattle.rules.specs.declared.Quote.TheVariants.{At}
 use Rattle.rules.specs.declared.Row.{Row}
 use Rattle.rules.specs.declared.Cell.{Cell}
 use Rattle.rules.specs.declared.SpreadRule.TheVariants.{Settled, OfStrike}
@@ -25,7 +24,7 @@ pub data Name : Type 0 where
   C1 C2 C3 C4 C5 C6 C7 C8 C9 C10 C11 C12 fifteenFailed sixteenFailed eventAtEnd negativePrice lockedQuote crossedQuote manyLapses lapsesAtEnds halfStep wholeSteps halfPercent : Name
 
 pub data Value : Type 0 where
-  quote : Quote → Value
+  quote : Option Steps → Value
   keeps : Bool → Value
   number : ℕ → Value
 
@@ -58,7 +57,7 @@ abbrev bid : List Event → Value
 bid events = quote (best_bid row (live events))
 
 abbrev at : ℕ → Value
-at price = quote (At (steps (pos price)))
+at price = quote (Some (steps (pos price)))
 
 abbrev first : Event
 first = add 1 Buy 100 300
@@ -71,11 +70,11 @@ third = add 3 Buy 98 400
 
 -- C4 and C5: a 100, b 1, a bid of 100 and an ask D above it
 abbrev kept : ℤ → ℕ → Value
-kept sp d = keeps (quotes_keep row (Settled (steps sp)) (At (steps (pos 100))) (At (steps (pos (100 + d)))))
+kept sp d = keeps (quotes_keep row (Settled (steps sp)) (Some (steps (pos 100))) (Some (steps (pos (100 + d)))))
 
 -- document 02, W2: a 100, SP 2000, b 1, a bid of 100 and an ask at it or a step below
 abbrev kept_ask : ℕ → Value
-kept_ask ask = keeps (quotes_keep row (Settled (steps (pos 2000))) (At (steps (pos 100))) (At (steps (pos ask))))
+kept_ask ask = keeps (quotes_keep row (Settled (steps (pos 2000))) (Some (steps (pos 100))) (Some (steps (pos ask))))
 
 -- C6 to C10: p 600, L 31,500,000
 abbrev weighed : ℕ → Value
@@ -150,7 +149,7 @@ kept_in events = number (kept_below row (Settled (steps (pos 2000))) events 1000
 abbrev kept_strike : ℕ → ℕ → ℕ → ℕ → Value
 kept_strike a difference b d =
     keeps
-    (quotes_keep row (OfStrike (record { a = a; difference = difference; days = 365; b = b })) (At (steps (pos 100))) (At (steps (pos (100 + d)))))
+    (quotes_keep row (OfStrike (record { a = a; difference = difference; days = 365; b = b })) (Some (steps (pos 100))) (Some (steps (pos (100 + d)))))
 
 abbrev pub checks : List Check
 checks =

@@ -1,6 +1,5 @@
 -- Document 02, W11: the time of 60, the Gregorian calendar by counting days, and the milliseconds between two times.
-use Rattle.std.specs.Prelude.{ℕ, zero, suc, ◌+◌, ◌*◌, ◌-◌, ◌%◌, Bool, true, false, ◌&&◌, ◌||◌, not, List, [], ◌∷◌, eqb, leb, ltb, take, drop, if◌then◌else◌}
-use Rattle.std.proofs.Math.Option.{Option, none, some}
+use Rattle.std.specs.Prelude.{ℕ, zero, suc, ◌+◌, ◌*◌, ◌-◌, ◌%◌, Bool, true, false, ◌&&◌, ◌||◌, not, List, [], ◌∷◌, eqb, leb, ltb, take, drop, if◌then◌else◌, Option, None, Some}
 use Rattle.rules.specs.declared.Timestamp.{Timestamp}
 use Rattle.lists.specs.Lists.{within}
 use Rattle.rules.specs.Answers.{Outcome, accepted, refused}
@@ -64,7 +63,7 @@ good_clock s = leb s.hour 23 && leb s.minute 59 && leb s.second 59
 
 -- the time that the bytes of a 60 say, or nothing
 unfoldable pub time_in : List ℕ → Option Timestamp
-time_in bytes = if has_form form bytes && (good_date (parts_of bytes) && good_clock (parts_of bytes)) then some (parts_of bytes) else none
+time_in bytes = if has_form form bytes && (good_date (parts_of bytes) && good_clock (parts_of bytes)) then Some (parts_of bytes) else None
 
 -- ---- the milliseconds from one time to another, by counting days
 -- the days of the years 1 to n
@@ -100,10 +99,10 @@ unfoldable pub moment_of : Timestamp → Timestamp → Moment
 moment_of start time = moment_between (instant_of start) (instant_of time)
 
 abbrev pub moment_from : Option Timestamp → Option Timestamp → Outcome Moment
-moment_from none none = refused 21
-moment_from none (some t) = refused 21
-moment_from (some s) none = refused 21
-moment_from (some s) (some t) = accepted (moment_of s t)
+moment_from None None = refused 21
+moment_from None (Some t) = refused 21
+moment_from (Some s) None = refused 21
+moment_from (Some s) (Some t) = accepted (moment_of s t)
 
 -- "the quantum's start, given with the reader in the same form (else 21)"
 unfoldable pub since : List ℕ → List ℕ → Outcome Moment

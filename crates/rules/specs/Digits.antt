@@ -1,6 +1,5 @@
 -- Document 02, W11: numbers in digits, read and written.
-use Rattle.std.specs.Prelude.{ℕ, zero, suc, ◌+◌, ◌*◌, ◌-◌, ◌/◌, ◌%◌, Bool, true, ◌&&◌, List, [], ◌∷◌, ◌++◌, ltb, eqb, ℤ, pos, negsuc, if◌then◌else◌}
-use Rattle.std.proofs.Math.Option.{Option, none, some}
+use Rattle.std.specs.Prelude.{ℕ, zero, suc, ◌+◌, ◌*◌, ◌-◌, ◌/◌, ◌%◌, Bool, true, ◌&&◌, List, [], ◌∷◌, ◌++◌, ltb, eqb, ℤ, pos, negsuc, if◌then◌else◌, Option, None, Some}
 use Rattle.lists.specs.Lists.{within}
 
 -- the bytes of 0 to 9
@@ -18,30 +17,30 @@ number_from n (b ∷ bs) = number_from (n * 10 + (b - 48)) bs
 
 -- "in digits": one or more and nothing else; "leading zeros are allowed in 9, 11, 41, 38 and 44"
 unfoldable pub in_digits : List ℕ → Option ℕ
-in_digits [] = none
-in_digits (b ∷ bs) = if all_digits (b ∷ bs) then some (number_from 0 (b ∷ bs)) else none
+in_digits [] = None
+in_digits (b ∷ bs) = if all_digits (b ∷ bs) then Some (number_from 0 (b ∷ bs)) else None
 
 -- "a number past 32 bits" is not read
 abbrev pub word_within : Option ℕ → Option ℕ
-word_within none = none
-word_within (some n) = if ltb n 4294967296 then some n else none
+word_within None = None
+word_within (Some n) = if ltb n 4294967296 then Some n else None
 
 unfoldable pub word_in : List ℕ → Option ℕ
 word_in bytes = word_within (in_digits bytes)
 
 abbrev pub positive : Option ℕ → Option ℤ
-positive none = none
-positive (some n) = if ltb n 2147483648 then some (pos n) else none
+positive None = None
+positive (Some n) = if ltb n 2147483648 then Some (pos n) else None
 
 -- `negsuc n` is -(n + 1); "minus zero is unreadable"
 abbrev pub negative : Option ℕ → Option ℤ
-negative none = none
-negative (some zero) = none
-negative (some (suc n)) = if ltb n 2147483648 then some (negsuc n) else none
+negative None = None
+negative (Some zero) = None
+negative (Some (suc n)) = if ltb n 2147483648 then Some (negsuc n) else None
 
 -- "price in whole steps, signed 32 bits, a minus sign if negative": 45 is the minus sign
 unfoldable pub steps_in : List ℕ → Option ℤ
-steps_in [] = none
+steps_in [] = None
 steps_in (b ∷ bs) = if eqb b 45 then negative (in_digits bs) else positive (in_digits (b ∷ bs))
 
 -- a number's digits, the last by the remainder and those before by the quotient; the first number bounds how many are made

@@ -1,6 +1,5 @@
 -- Document 02, W11: the fields of a message, "tag in digits (the first not 0), equals sign, value (at least one byte), byte 1".
-use Rattle.std.specs.Prelude.{ℕ, Bool, true, false, ◌&&◌, not, List, [], ◌∷◌, ◌++◌, eqb, if◌then◌else◌}
-use Rattle.std.proofs.Math.Option.{Option, none, some}
+use Rattle.std.specs.Prelude.{ℕ, Bool, true, false, ◌&&◌, not, List, [], ◌∷◌, ◌++◌, eqb, if◌then◌else◌, Option, None, Some}
 use Rattle.rules.specs.Digits.{all_digits}
 
 -- a field: the digits of its tag, so that a tag of any length is compared digit by digit (4294967304 is not 8), and its value
@@ -29,12 +28,12 @@ pieces (b ∷ bs) = let rest = pieces bs in if eqb b 1 then [] ∷ rest else gro
 
 -- ---- one piece: the tag is the bytes before the first equals sign
 abbrev pub tagged_by : ℕ → Option Field → Option Field
-tagged_by b none = none
-tagged_by b (some f) = some (record { tag = b ∷ f.tag; value = f.value })
+tagged_by b None = None
+tagged_by b (Some f) = Some (record { tag = b ∷ f.tag; value = f.value })
 
 unfoldable pub split_field : List ℕ → Option Field
-split_field [] = none
-split_field (b ∷ bs) = let rest = split_field bs in if eqb b 61 then some (record { tag = []; value = bs }) else tagged_by b rest
+split_field [] = None
+split_field (b ∷ bs) = let rest = split_field bs in if eqb b 61 then Some (record { tag = []; value = bs }) else tagged_by b rest
 
 -- "in digits (the first not 0)": 48 is the digit 0
 unfoldable pub good_tag : List ℕ → Bool
@@ -47,23 +46,23 @@ good_value [] = false
 good_value (b ∷ bs) = true
 
 abbrev pub good_field : Option Field → Option Field
-good_field none = none
-good_field (some f) = if good_tag f.tag && good_value f.value then some f else none
+good_field None = None
+good_field (Some f) = if good_tag f.tag && good_value f.value then Some f else None
 
 unfoldable pub field_of : List ℕ → Option Field
 field_of piece = good_field (split_field piece)
 
 -- ---- the fields of the bytes, or nothing where a piece is no field or bytes follow the last byte 1
 abbrev pub add_field : Option Field → Option (List Field) → Option (List Field)
-add_field none none = none
-add_field none (some fs) = none
-add_field (some f) none = none
-add_field (some f) (some fs) = some (f ∷ fs)
+add_field None None = None
+add_field None (Some fs) = None
+add_field (Some f) None = None
+add_field (Some f) (Some fs) = Some (f ∷ fs)
 
 unfoldable pub fields_in : List (List ℕ) → Option (List Field)
-fields_in [] = none
-fields_in ([] ∷ []) = some []
-fields_in ((b ∷ bs) ∷ []) = none
+fields_in [] = None
+fields_in ([] ∷ []) = Some []
+fields_in ((b ∷ bs) ∷ []) = None
 fields_in (p ∷ q ∷ ps) = add_field (field_of p) (fields_in (q ∷ ps))
 
 unfoldable pub fields_of : List ℕ → Option (List Field)

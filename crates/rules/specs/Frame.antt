@@ -1,6 +1,5 @@
 -- Document 02, W11: the frame of a message: version, body length, type, checksum. What is not so framed is refused by 20.
-use Rattle.std.specs.Prelude.{ℕ, ◌%◌, Bool, true, false, ◌&&◌, ◌||◌, not, List, [], ◌∷◌, eqb, length, if◌then◌else◌}
-use Rattle.std.proofs.Math.Option.{Option, none, some}
+use Rattle.std.specs.Prelude.{ℕ, ◌%◌, Bool, true, false, ◌&&◌, ◌||◌, not, List, [], ◌∷◌, eqb, length, if◌then◌else◌, Option, None, Some}
 use Rattle.lists.specs.Lists.{sum, any}
 use Rattle.rules.specs.Text.{ascii}
 use Rattle.rules.specs.Digits.{in_digits, three_digits}
@@ -35,14 +34,14 @@ kind_text replace = ascii "G"
 
 unfoldable pub kind_in : List ℕ → Option Kind
 kind_in value =
-    if same_bytes value (kind_text new) then some new
-    else if same_bytes value (kind_text cancel) then some cancel
-    else if same_bytes value (kind_text replace) then some replace
-    else none
+    if same_bytes value (kind_text new) then Some new
+    else if same_bytes value (kind_text cancel) then Some cancel
+    else if same_bytes value (kind_text replace) then Some replace
+    else None
 
 abbrev pub is_number : Option ℕ → ℕ → Bool
-is_number none n = false
-is_number (some m) n = eqb m n
+is_number None n = false
+is_number (Some m) n = eqb m n
 
 -- "body length (9: the bytes after its field and before 10)"
 abbrev pub length_right : Field → List Field → Bool
@@ -67,11 +66,11 @@ pub record Ending : Type 0 where
   pub last : Field
 
 abbrev pub behind : Field → Option Ending → Option Ending
-behind f none = some (record { front = []; last = f })
-behind f (some e) = some (record { front = f ∷ e.front; last = e.last })
+behind f None = Some (record { front = []; last = f })
+behind f (Some e) = Some (record { front = f ∷ e.front; last = e.last })
 
 unfoldable pub ending_of : List Field → Option Ending
-ending_of [] = none
+ending_of [] = None
 ending_of (f ∷ fs) = behind f (ending_of fs)
 
 -- "first 8=FIX.4.4, then body length .., type (35), and last, nothing after it, checksum"
@@ -84,24 +83,24 @@ good_frame first size kind body check =
     && has_tag checksum_tag check && checksum_right check (first ∷ size ∷ kind ∷ body)
 
 abbrev pub body_by : Bool → Option Kind → List Field → Option Body
-body_by false k body = none
-body_by true none body = none
-body_by true (some k) body = some (record { kind = k; fields = body })
+body_by false k body = None
+body_by true None body = None
+body_by true (Some k) body = Some (record { kind = k; fields = body })
 
 abbrev pub framed_by : Field → Field → Field → Option Ending → Option Body
-framed_by first size kind none = none
-framed_by first size kind (some e) = body_by (good_frame first size kind e.front e.last) (kind_in kind.value) e.front
+framed_by first size kind None = None
+framed_by first size kind (Some e) = body_by (good_frame first size kind e.front e.last) (kind_in kind.value) e.front
 
 unfoldable pub framed : List Field → Option Body
-framed [] = none
-framed (a ∷ []) = none
-framed (a ∷ b ∷ []) = none
+framed [] = None
+framed (a ∷ []) = None
+framed (a ∷ b ∷ []) = None
 framed (first ∷ size ∷ kind ∷ rest) = framed_by first size kind (ending_of rest)
 
 -- the body of a message, or nothing: "20, frame, length, checksum or message type wrong"
 abbrev pub framed_in : Option (List Field) → Option Body
-framed_in none = none
-framed_in (some fs) = framed fs
+framed_in None = None
+framed_in (Some fs) = framed fs
 
 unfoldable pub body_in : List ℕ → Option Body
 body_in bytes = framed_in (fields_of bytes)

@@ -1,10 +1,9 @@
 -- Document 01, "Best quote and kept time": kept milliseconds and kept time, with what document 02 adds: W2's sentence on
 -- D and, by W4, a strike's spread limit.
-use Rattle.std.specs.Prelude.{ℕ, List, Bool, false, ◌&&◌, ◌||◌, leb, ℤ, pos, ◌-ℤ◌, ◌*ℤ◌}
+use Rattle.std.specs.Prelude.{ℕ, List, Bool, false, ◌&&◌, ◌||◌, leb, ℤ, pos, ◌-ℤ◌, ◌*ℤ◌, None, Option, Some}
 use Rattle.std.specs.Int.Signed.{le_z}
+use Rattle.rules.specs.declared.Steps.{Steps}
 use Rattle.rules.specs.declared.Side.TheVariants.{Buy, Sell}
-use Rattle.rules.specs.declared.Quote.{Quote}
-use Rattle.rules.specs.declared.Quote.TheVariants.{Absent, At}
 use Rattle.rules.specs.declared.Order.{Order}
 use Rattle.rules.specs.declared.Row.{Row}
 use Rattle.rules.specs.declared.SpreadRule.{SpreadRule}
@@ -29,16 +28,16 @@ abbrev pub spread_keeps : Row → SpreadRule → ℤ → Bool
 spread_keeps row spread d = le_z (pos 1) d && spread_within row spread d
 
 -- "both quotes exist and" their D is so
-unfoldable pub quotes_keep : Row → SpreadRule → Quote → Quote → Bool
-quotes_keep row spread Absent ask = false
-quotes_keep row spread (At bid) Absent = false
-quotes_keep row spread (At bid) (At ask) = spread_keeps row spread (gap bid.0 ask.0)
+unfoldable pub quotes_keep : Row → SpreadRule → Option Steps → Option Steps → Bool
+quotes_keep row spread None ask = false
+quotes_keep row spread (Some bid) None = false
+quotes_keep row spread (Some bid) (Some ask) = spread_keeps row spread (gap bid.0 ask.0)
 
 -- the best bid and the best ask of live orders, for the row's M
-abbrev pub best_bid : Row → List Order → Quote
+abbrev pub best_bid : Row → List Order → Option Steps
 best_bid row orders = best Buy row.minimum.0 orders
 
-abbrev pub best_ask : Row → List Order → Quote
+abbrev pub best_ask : Row → List Order → Option Steps
 best_ask row orders = best Sell row.minimum.0 orders
 
 -- the live orders keep the quote

@@ -1,6 +1,5 @@
 -- Document 02, W11: the calls that a message means, by its bytes and the quantum's start.
-use Rattle.std.specs.Prelude.{ℕ, List, [], ◌∷◌}
-use Rattle.std.proofs.Math.Option.{Option, none, some}
+use Rattle.std.specs.Prelude.{ℕ, List, [], ◌∷◌, Option, None, Some}
 use Rattle.rules.specs.declared.Event.{Event}
 use Rattle.rules.specs.declared.Event.TheVariants.{Add, Cancel}
 use Rattle.rules.specs.declared.Timestamp.{Timestamp}
@@ -11,8 +10,8 @@ use Rattle.rules.specs.Messages.{Message, new_order, cancel_order, replace_order
 
 -- "The time is taken from the quantum's start, given with the reader in the same form (else 21)"
 abbrev pub timed_from : Option Timestamp → Message Timestamp → Outcome (Message Moment)
-timed_from none m = refused 21
-timed_from (some start) m = accepted (with_time m (moment_of start (time_of m)))
+timed_from None m = refused 21
+timed_from (Some start) m = accepted (with_time m (moment_of start (time_of m)))
 
 abbrev pub timed : List ℕ → Outcome (Message Timestamp) → Outcome (Message Moment)
 timed start (refused n) = refused n

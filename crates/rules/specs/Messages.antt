@@ -1,6 +1,5 @@
 -- Document 02, W11: what the three messages say, read and written.
-use Rattle.std.specs.Prelude.{ℕ, ◌%◌, List, [], ◌∷◌, ◌++◌, length, if◌then◌else◌}
-use Rattle.std.proofs.Math.Option.{Option, none, some}
+use Rattle.std.specs.Prelude.{ℕ, ◌%◌, List, [], ◌∷◌, ◌++◌, length, if◌then◌else◌, Option, None, Some}
 use Rattle.rules.specs.declared.Side.{Side}
 use Rattle.rules.specs.declared.Side.TheVariants.{Buy, Sell}
 use Rattle.rules.specs.declared.Contracts.{Contracts}
@@ -44,9 +43,9 @@ pub data Message (T : Type 0) : Type 0 where
 -- ---- read
 -- the value of a tag that is there once and is readable: "21, a used tag absent, twice, unreadable or with a number past 32 bits"
 abbrev pub once : {A : Type 0} → (List ℕ → Option A) → List (List ℕ) → Option A
-once read [] = none
+once read [] = None
 once read (v ∷ []) = read v
-once read (v ∷ w ∷ vs) = none
+once read (v ∷ w ∷ vs) = None
 
 -- "54 (1 buy, 2 sell)"; "leading zeros are allowed .., not in 54"
 abbrev pub side_text : Side → List ℕ
@@ -55,13 +54,13 @@ side_text Sell = ascii "2"
 
 unfoldable pub side_in : List ℕ → Option Side
 side_in value =
-    if same_bytes value (side_text Buy) then some Buy else if same_bytes value (side_text Sell) then some Sell else none
+    if same_bytes value (side_text Buy) then Some Buy else if same_bytes value (side_text Sell) then Some Sell else None
 
 -- each of the values in turn, or nothing
 infixl 10 ◌>>=◌
 abbrev pub ◌>>=◌ : {A B : Type 0} → Option A → (A → Option B) → Option B
-none >>= f = none
-some a >>= f = f a
+None >>= f = None
+Some a >>= f = f a
 
 -- what the fields between 35 and 10 say; other tags are not looked at
 unfoldable pub message_of : Kind → List Field → Option (Message Timestamp)
@@ -71,12 +70,12 @@ message_of new fs = do
   volume ← once word_in (values_of volume_tag fs)
   price ← once steps_in (values_of price_tag fs)
   time ← once time_in (values_of time_tag fs)
-  some (new_order id side (contracts volume) (steps price) time)
+  Some (new_order id side (contracts volume) (steps price) time)
 message_of cancel fs = do
   id ← once word_in (values_of id_tag fs)
   orig ← once word_in (values_of orig_tag fs)
   time ← once time_in (values_of time_tag fs)
-  some (cancel_order id orig time)
+  Some (cancel_order id orig time)
 message_of replace fs = do
   id ← once word_in (values_of id_tag fs)
   orig ← once word_in (values_of orig_tag fs)
@@ -84,16 +83,16 @@ message_of replace fs = do
   volume ← once word_in (values_of volume_tag fs)
   price ← once steps_in (values_of price_tag fs)
   time ← once time_in (values_of time_tag fs)
-  some (replace_order id orig side (contracts volume) (steps price) time)
+  Some (replace_order id orig side (contracts volume) (steps price) time)
 
 abbrev pub readable : Option (Message Timestamp) → Outcome (Message Timestamp)
-readable none = refused 21
-readable (some m) = accepted m
+readable None = refused 21
+readable (Some m) = accepted m
 
 -- 20 comes before 21
 abbrev pub read_body : Option Body → Outcome (Message Timestamp)
-read_body none = refused 20
-read_body (some b) = readable (message_of b.kind b.fields)
+read_body None = refused 20
+read_body (Some b) = readable (message_of b.kind b.fields)
 
 unfoldable pub read_message : List ℕ → Outcome (Message Timestamp)
 read_message bytes = read_body (body_in bytes)
@@ -143,8 +142,8 @@ unfoldable pub message_bytes : Message (List ℕ) → List ℕ
 message_bytes m = checked_by (counted_by (field_with type_tag (kind_text (kind_of m)) ∷ written_fields m))
 
 abbrev pub written_by : Option Timestamp → List ℕ → Outcome (List ℕ)
-written_by none bytes = refused 21
-written_by (some t) bytes = accepted bytes
+written_by None bytes = refused 21
+written_by (Some t) bytes = accepted bytes
 
 -- "a 60 not so formed is code 21"
 unfoldable pub write_message : Message (List ℕ) → Outcome (List ℕ)

@@ -1,14 +1,13 @@
 -- The outlook on an open quantum: how much must still be kept, whether the maker may rest, and until when. No term of the papers, but built
 -- from theirs: a cell that is met or failed, its weight, lapses. What the answers mean of the calls that may follow is in
 -- the crate `continuations`.
-use Rattle.std.specs.Prelude.{ℕ, zero, suc, ◌+◌, ◌-◌, ◌*◌, ◌/◌, List, Bool, true, false, ◌&&◌, ◌||◌, leb, ltb, eqb, pos, length, if◌then◌else◌}
+use Rattle.std.specs.Prelude.{ℕ, zero, suc, ◌+◌, ◌-◌, ◌*◌, ◌/◌, List, Bool, true, false, ◌&&◌, ◌||◌, leb, ltb, eqb, pos, length, if◌then◌else◌, None, Option, Some}
+use Rattle.rules.specs.declared.Millis.{Millis}
 use Rattle.rules.specs.declared.Row.{Row}
 use Rattle.rules.specs.declared.SpreadRule.{SpreadRule}
 use Rattle.rules.specs.declared.Opening.{Opening}
 use Rattle.rules.specs.declared.Cell.{Cell}
 use Rattle.rules.specs.declared.Event.{Event}
-use Rattle.rules.specs.declared.Possible.{Possible}
-use Rattle.rules.specs.declared.Possible.TheVariants.{Never, At}
 use Rattle.rules.specs.declared.LapsesLeft.{LapsesLeft}
 use Rattle.rules.specs.declared.LapsesLeft.TheVariants.{Unlimited, Over, Left}
 use Rattle.rules.specs.declared.Outlook.{Outlook}
@@ -64,13 +63,13 @@ lapses_left allowed count =
     if eqb allowed no_lapse_limit then Unlimited else (if leb count allowed then Left (allowed - count) else Over)
 
 -- the latest number that passes, of those from t on, n more at most
-unfoldable pub latest : (ℕ → Bool) → ℕ → ℕ → Possible
-latest p t zero = if p t then At (millis t) else Never
-latest p t (suc n) = let earlier = latest p t n in if p (t + suc n) then At (millis (t + suc n)) else earlier
+unfoldable pub latest : (ℕ → Bool) → ℕ → ℕ → Option Millis
+latest p t zero = if p t then Some (millis t) else None
+latest p t (suc n) = let earlier = latest p t n in if p (t + suc n) then Some (millis (t + suc n)) else earlier
 
-abbrev pub is_never : Possible → Bool
-is_never Never = true
-is_never (At s) = false
+abbrev pub is_never : Option Millis → Bool
+is_never None = true
+is_never (Some s) = false
 
 -- before anything is opened there is no outlook: the call is refused, and these are not shown
 abbrev pub no_outlook : Outlook
@@ -78,8 +77,8 @@ no_outlook =
     record {
       need = millis 0;
       left = millis 0;
-      by = Never;
-      full = Never;
+      by = None;
+      full = None;
       lapses = Unlimited;
       rest = false;
       lost = false;
@@ -96,17 +95,17 @@ module _ (terms : Terms) where
 
   -- the latest time s, from t to L, such that nothing kept from t to s and all kept from s on leaves a met cell, lapses counted; never where
   -- there is none
-  unfoldable pub latest_rest : Row → Opening → List Event → Possible
+  unfoldable pub latest_rest : Row → Opening → List Event → Option Millis
   latest_rest row opening events = latest (may_so row opening events) (present events) (row.length.0 - present events)
 
   -- how many must still be kept for 1000 × K ≥ 800 × L ..; never where that is more than left, lapses are over, or something is still to be
   -- kept and nothing can be
-  unfoldable pub full_need : Row → Opening → List Event → Possible
+  unfoldable pub full_need : Row → Opening → List Event → Option Millis
   full_need row opening events =
       let t = present events in
       let n = full_need_of (kept_below row opening.spread events t) row.length.0 in
       if leb n (row.length.0 - t) && within_lapse_limit opening.allowed (lapses_below row opening.spread events t)
-      && (eqb n 0 || can_keep row opening.spread) then At (millis n) else Never
+      && (eqb n 0 || can_keep row opening.spread) then Some (millis n) else None
 
   -- the weight if nothing more is kept, and the weight if all that is left is (where nothing can be kept, the first again)
   unfoldable pub weight_resting : Row → Opening → List Event → ℕ

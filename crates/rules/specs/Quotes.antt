@@ -1,11 +1,10 @@
 -- Document 01, "Best quote and kept time": the best quote on a side of the live orders.
-use Rattle.std.specs.Prelude.{ℕ, ◌≡◌, Bool, true, false, ◌&&◌, leb, ℤ, if◌then◌else◌}
+use Rattle.std.specs.Prelude.{ℕ, ◌≡◌, Bool, true, false, ◌&&◌, leb, ℤ, if◌then◌else◌, None, Option, Some}
 use mathlib.Core.List.{List, [], ◌∷◌, map, Memᴰ}
 use Rattle.std.specs.Int.Signed.{le_z}
+use Rattle.rules.specs.declared.Steps.{Steps}
 use Rattle.rules.specs.declared.Side.{Side}
 use Rattle.rules.specs.declared.Side.TheVariants.{Buy, Sell}
-use Rattle.rules.specs.declared.Quote.{Quote}
-use Rattle.rules.specs.declared.Quote.TheVariants.{Absent, At}
 use Rattle.rules.specs.declared.Order.{Order}
 use Rattle.lists.specs.Lists.{sum, filter}
 
@@ -37,24 +36,24 @@ unfoldable pub qualifies : Side → ℕ → List Order → Order → Bool
 qualifies side minimum orders o = same side o.side && leb minimum (depth side o.price.0 orders)
 
 -- the better of two quotes: the greater bid, the lesser ask
-abbrev pub better : Side → Quote → Quote → Quote
-better side Absent y = y
-better side (At p) Absent = At p
-better side (At p) (At q) = if at_least side p.0 q.0 then At p else At q
+abbrev pub better : Side → Option Steps → Option Steps → Option Steps
+better side None y = y
+better side (Some p) None = Some p
+better side (Some p) (Some q) = if at_least side p.0 q.0 then Some p else Some q
 
 -- the best price of some orders, absent where there are none
-unfoldable pub lead : Side → List Order → Quote
-lead side [] = Absent
-lead side (o ∷ os) = better side (At o.price) (lead side os)
+unfoldable pub lead : Side → List Order → Option Steps
+lead side [] = None
+lead side (o ∷ os) = better side (Some o.price) (lead side os)
 
 -- best bid and best ask
-unfoldable pub best : Side → ℕ → List Order → Quote
+unfoldable pub best : Side → ℕ → List Order → Option Steps
 best side minimum orders = lead side (filter (qualifies side minimum orders) orders)
 
 -- What the paper says of a best quote: it is absent, and no order qualifies; or it is the price of an order that qualifies, and
 -- no order that qualifies has a better one. `means` in proofs/Best shows it of `best`, and `meant` that no other quote has it.
-abbrev pub Means : Side → ℕ → List Order → Quote → Type 0
-Means side minimum orders Absent = (o : Order) → Memᴰ o orders → qualifies side minimum orders o ≡ false
-Means side minimum orders (At p) =
+abbrev pub Means : Side → ℕ → List Order → Option Steps → Type 0
+Means side minimum orders None = (o : Order) → Memᴰ o orders → qualifies side minimum orders o ≡ false
+Means side minimum orders (Some p) =
     ((o : Order) × Memᴰ o orders × (qualifies side minimum orders o ≡ true) × (o.price ≡ p))
     × ((o : Order) → Memᴰ o orders → qualifies side minimum orders o ≡ true → at_least side p.0 o.price.0 ≡ true)

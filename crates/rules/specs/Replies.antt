@@ -1,7 +1,6 @@
 -- Document 01, "A row and a month": what an accepted call shows.
-use Rattle.std.specs.Prelude.{ℕ, length}
-use Rattle.rules.specs.declared.Quote.{Quote}
-use Rattle.rules.specs.declared.Quote.TheVariants.{Absent}
+use Rattle.std.specs.Prelude.{ℕ, length, None, Option}
+use Rattle.rules.specs.declared.Steps.{Steps}
 use Rattle.rules.specs.declared.Amendment.{Amendment}
 use Rattle.rules.specs.declared.Preview.{Preview}
 use Rattle.rules.specs.declared.Report.{Report as ReportValues}
@@ -29,12 +28,12 @@ abbrev pub orders_in : Running → ℕ
 orders_in Idle = 0
 orders_in (Quoting place row opening events) = length (live events)
 
-abbrev pub bid_in : Running → Quote
-bid_in Idle = Absent
+abbrev pub bid_in : Running → Option Steps
+bid_in Idle = None
 bid_in (Quoting place row opening events) = best_bid row (live events)
 
-abbrev pub ask_in : Running → Quote
-ask_in Idle = Absent
+abbrev pub ask_in : Running → Option Steps
+ask_in Idle = None
 ask_in (Quoting place row opening events) = best_ask row (live events)
 
 abbrev pub kept_in : Running → ℕ

@@ -1,11 +1,11 @@
 -- Document 01, "Event records and the session run": the session run, by the plain book.
-use Rattle.std.specs.Prelude.{ℕ, zero, suc, ◌+◌, ◌*◌, ◌/◌, List, [], ◌∷◌, ◌++◌, map, Bool, ltb, eqb, length, take, drop, if◌then◌else◌}
+use Rattle.std.specs.Prelude.{ℕ, zero, suc, ◌+◌, ◌*◌, ◌/◌, List, [], ◌∷◌, ◌++◌, map, Bool, ltb, eqb, length, take, drop, if◌then◌else◌, Err, Ok, Result}
+use Rattle.rules.specs.declared.Stopped.{Stopped}
+use Rattle.rules.specs.declared.Finished.{Finished}
 use Rattle.rules.specs.declared.Steps.{Steps}
 use Rattle.rules.specs.declared.SpreadRule.TheVariants.{Settled}
 use Rattle.rules.specs.declared.Opening.{Opening}
 use Rattle.rules.specs.declared.Event.{Event}
-use Rattle.rules.specs.declared.SessionAnswer.{SessionAnswer}
-use Rattle.rules.specs.declared.SessionAnswer.TheVariants as S
 use Rattle.lists.specs.Lists.{below}
 use Rattle.rules.specs.Terms.{Terms}
 use Rattle.rules.specs.Units.{steps, kopecks}
@@ -48,9 +48,9 @@ pub data Ran : Type 0 where
   accepted : ℕ → ℕ → ℕ → Ran
   refused : ℕ → ℕ → Ran
 
-abbrev pub shown_session : SessionAnswer → Ran
-shown_session (S.Finished kept weight pairs) = Ran.accepted kept.0 weight pairs
-shown_session (S.Refused r place) = Ran.refused (number_of r) place
+abbrev pub shown_session : Result Finished Stopped → Ran
+shown_session (Ok run) = Ran.accepted run.kept.0 run.weight run.pairs
+shown_session (Err stop) = Ran.refused (number_of stop.refusal) stop.place
 
 -- the stretches that the open quantum has kept below L
 abbrev pub stretches_in : Running → List Stretch

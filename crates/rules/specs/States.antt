@@ -1,9 +1,8 @@
 -- What a millisecond of a quantum is: kept, or not kept and for which of five reasons. The maker's question where the time went; the papers'
 -- own word is kept alone, and `kept-state` (proofs/States) says that the one state is exactly that.
-use Rattle.std.specs.Prelude.{ℕ, List, Bool, true, false, ℤ, pos, if◌then◌else◌}
+use Rattle.std.specs.Prelude.{ℕ, List, Bool, true, false, ℤ, pos, if◌then◌else◌, None, Option, Some}
 use Rattle.std.specs.Int.Signed.{le_z}
-use Rattle.rules.specs.declared.Quote.{Quote}
-use Rattle.rules.specs.declared.Quote.TheVariants.{Absent, At}
+use Rattle.rules.specs.declared.Steps.{Steps}
 use Rattle.rules.specs.declared.Order.{Order}
 use Rattle.rules.specs.declared.Row.{Row}
 use Rattle.rules.specs.declared.SpreadRule.{SpreadRule}
@@ -41,11 +40,11 @@ is_kept wide = false
 abbrev pub spread_state : Row → SpreadRule → ℤ → State
 spread_state row spread d = if le_z (pos 1) d then (if spread_within row spread d then kept else wide) else crossed
 
-unfoldable pub quotes_state : Row → SpreadRule → Quote → Quote → State
-quotes_state row spread Absent Absent = neither
-quotes_state row spread Absent (At ask) = has_no_bid
-quotes_state row spread (At bid) Absent = has_no_ask
-quotes_state row spread (At bid) (At ask) = spread_state row spread (gap bid.0 ask.0)
+unfoldable pub quotes_state : Row → SpreadRule → Option Steps → Option Steps → State
+quotes_state row spread None None = neither
+quotes_state row spread None (Some ask) = has_no_bid
+quotes_state row spread (Some bid) None = has_no_ask
+quotes_state row spread (Some bid) (Some ask) = spread_state row spread (gap bid.0 ask.0)
 
 -- of live orders
 unfoldable pub orders_state : Row → SpreadRule → List Order → State

@@ -5,33 +5,26 @@ ghost use Rattle.std.specs.Prelude.{◌≡◌, ◌≤◌};
 ghost use Rattle.rules.specs.Answers.{number_of};
 
 // Units: milliseconds, price steps, contracts and kopecks.
-#[derive(Clone, Copy)]
+#[derive(Clone, Copy, PartialEq, Eq, PartialOrd, Ord)]
 pub struct Millis(pub u32);
 
-#[derive(Clone, Copy)]
+#[derive(Clone, Copy, PartialEq, Eq, PartialOrd, Ord)]
 pub struct Steps(pub i32);
 
-#[derive(Clone, Copy)]
+#[derive(Clone, Copy, PartialEq, Eq, PartialOrd, Ord)]
 pub struct Contracts(pub u32);
 
-#[derive(Clone, Copy)]
+#[derive(Clone, Copy, PartialEq, Eq, PartialOrd, Ord)]
 pub struct Kopecks(pub u64);
 
-#[derive(Clone, Copy)]
+#[derive(Clone, Copy, PartialEq, Eq)]
 pub enum Side {
     Buy,
     Sell,
 }
 
-// A best quote on a side.
-#[derive(Clone, Copy)]
-pub enum Quote {
-    Absent,
-    At(Steps),
-}
-
 // A live order.
-#[derive(Clone, Copy)]
+#[derive(Clone, Copy, PartialEq, Eq)]
 pub struct Order {
     pub id: u32,
     pub side: Side,
@@ -40,7 +33,7 @@ pub struct Order {
 }
 
 // A row of the programme's table: length is L, minimum M, share p; b counts price steps and is never negative.
-#[derive(Clone, Copy)]
+#[derive(Clone, Copy, PartialEq, Eq)]
 pub struct Row {
     pub expiry: u32,
     pub quantum: u32,
@@ -52,7 +45,7 @@ pub struct Row {
 }
 
 // What a strike's open takes in place of SP: a in tenths, the premium difference in price steps, the days, b in price steps.
-#[derive(Clone, Copy)]
+#[derive(Clone, Copy, PartialEq, Eq)]
 pub struct Strike {
     pub a: u32,
     pub difference: u32,
@@ -61,21 +54,21 @@ pub struct Strike {
 }
 
 // What a quantum's spread limit depends on: SP, beside the row's a and b, or a strike's four numbers.
-#[derive(Clone, Copy)]
+#[derive(Clone, Copy, PartialEq, Eq)]
 pub enum SpreadRule {
     Settled(Steps),
     OfStrike(Strike),
 }
 
 // What open is given besides the row and the day: what the spread limit depends on, and the lapse limit.
-#[derive(Clone, Copy)]
+#[derive(Clone, Copy, PartialEq, Eq)]
 pub struct Opening {
     pub spread: SpreadRule,
     pub allowed: u32,
 }
 
 // A cell of the month: kept is K, length L, share p, allowed the lapse limit, lapses their count, active A, passive P.
-#[derive(Clone, Copy)]
+#[derive(Clone, Copy, PartialEq, Eq)]
 pub struct Cell {
     pub filled: bool,
     pub kept: Millis,
@@ -87,7 +80,7 @@ pub struct Cell {
     pub passive: Kopecks,
 }
 
-#[derive(Clone, Copy)]
+#[derive(Clone, Copy, PartialEq, Eq)]
 pub enum Event {
     Add {
         t: Millis,
@@ -117,7 +110,7 @@ pub enum Event {
 }
 
 // What an amend, an ask and a commit name.
-#[derive(Clone, Copy)]
+#[derive(Clone, Copy, PartialEq, Eq)]
 pub struct Amendment {
     pub t: Millis,
     pub id: u32,
@@ -126,14 +119,14 @@ pub struct Amendment {
 }
 
 // What an ask gives and a commit takes: the amendment and the month's count of accepted calls.
-#[derive(Clone, Copy)]
+#[derive(Clone, Copy, PartialEq, Eq)]
 pub struct Ticket {
     pub amendment: Amendment,
     pub count: u64,
 }
 
 // Why a call is refused, in the order of the numbers 1 to 21.
-#[derive(Clone, Copy)]
+#[derive(Clone, Copy, PartialEq, Eq)]
 pub enum Refusal {
     RowNotSevenWords,
     RowWordOutOfRange,
@@ -158,66 +151,38 @@ pub enum Refusal {
     FieldWrong,
 }
 
-// The answer of a call that shows nothing when it is accepted.
-#[derive(Clone, Copy)]
-pub enum Answer {
-    Accepted,
-    Refused(Refusal),
-}
-
 // A filled cell with its verdict and weight.
-#[derive(Clone, Copy)]
+#[derive(Clone, Copy, PartialEq, Eq)]
 pub struct CellView {
     pub cell: Cell,
     pub met: bool,
     pub weight: u32,
 }
 
-// The answer of look.
-#[derive(Clone, Copy)]
-pub enum Looked {
-    Found(CellView),
-    Refused(Refusal),
-}
-
 // Both best quotes after the amendment that was asked about, and its ticket.
-#[derive(Clone, Copy)]
+#[derive(Clone, Copy, PartialEq, Eq)]
 pub struct Preview {
-    pub bid: Quote,
-    pub ask: Quote,
+    pub bid: Option<Steps>,
+    pub ask: Option<Steps>,
     pub ticket: Ticket,
 }
 
-// The answer of ask.
-#[derive(Clone, Copy)]
-pub enum Asked {
-    Shown(Preview),
-    Refused(Refusal),
-}
-
 // The answer of report: it is never refused. The six failure counts are those of expiry 1, quantum 0, 1, 2, then expiry 2.
-#[derive(Clone, Copy)]
+#[derive(Clone, Copy, PartialEq, Eq)]
 pub struct Report {
     pub running: bool,
     pub time: Millis,
     pub orders: u32,
-    pub bid: Quote,
-    pub ask: Quote,
+    pub bid: Option<Steps>,
+    pub ask: Option<Steps>,
     pub kept: Millis,
     pub lapses: u32,
     pub failures: [u32; 6],
     pub fee: Kopecks,
 }
 
-// A number of milliseconds, or a time, where there is one.
-#[derive(Clone, Copy)]
-pub enum Possible {
-    Never,
-    At(Millis),
-}
-
 // How many lapses more the lapse limit allows: any number, none even of those that were, or so many.
-#[derive(Clone, Copy)]
+#[derive(Clone, Copy, PartialEq, Eq)]
 pub enum LapsesLeft {
     Unlimited,
     Over,
@@ -227,12 +192,12 @@ pub enum LapsesLeft {
 // The outlook on an open quantum: how many milliseconds must still be kept, and how many are left; the latest time until which nothing
 // need be kept; how many must still be kept for the full weight; the lapses left; whether the cell is met if nothing more is kept, and
 // whether it is failed whatever comes; the weights if nothing more is kept, and if all that is left is.
-#[derive(Clone, Copy)]
+#[derive(Clone, Copy, PartialEq, Eq)]
 pub struct Outlook {
     pub need: Millis,
     pub left: Millis,
-    pub by: Possible,
-    pub full: Possible,
+    pub by: Option<Millis>,
+    pub full: Option<Millis>,
     pub lapses: LapsesLeft,
     pub rest: bool,
     pub lost: bool,
@@ -240,43 +205,23 @@ pub struct Outlook {
     pub keeping: u32,
 }
 
-// The answer of outlook.
-#[derive(Clone, Copy)]
-pub enum OutlookAnswer {
-    Shown(Outlook),
-    Refused(Refusal),
+// What a session run leaves: K, w and the number of pairs.
+#[derive(Clone, Copy, PartialEq, Eq)]
+pub struct Finished {
+    pub kept: Millis,
+    pub weight: u32,
+    pub pairs: u32,
 }
 
-// A row read from words.
-#[derive(Clone, Copy)]
-pub enum RowRead {
-    Read(Row),
-    Refused(Refusal),
-}
-
-// An event read from a record.
-#[derive(Clone, Copy)]
-pub enum RecordRead {
-    Read(Event),
-    Refused(Refusal),
-}
-
-// The answer of a session run: K, w and the number of pairs, or a refusal and its place.
-#[derive(Clone, Copy)]
-pub enum SessionAnswer {
-    Finished {
-        kept: Millis,
-        weight: u32,
-        pairs: u32,
-    },
-    Refused {
-        refusal: Refusal,
-        place: u32,
-    },
+// Where a run stopped: the refusal, and its place.
+#[derive(Clone, Copy, PartialEq, Eq)]
+pub struct Stopped {
+    pub refusal: Refusal,
+    pub place: u32,
 }
 
 // A time to the millisecond, as FIX writes it.
-#[derive(Clone, Copy)]
+#[derive(Clone, Copy, PartialEq, Eq)]
 pub struct Timestamp {
     pub year: u32,
     pub month: u32,
@@ -288,31 +233,33 @@ pub struct Timestamp {
 }
 
 // The refusal's number in documents 01 and 02.
-pub fn number(refusal: Refusal) -> u32
-    ensures { result ≡ number_of refusal }
-{
-    match refusal {
-        Refusal::RowNotSevenWords => 1,
-        Refusal::RowWordOutOfRange => 2,
-        Refusal::ArgumentOutOfRange => 3,
-        Refusal::CellFilled => 4,
-        Refusal::CellBlank => 5,
-        Refusal::QuantumOpen => 6,
-        Refusal::NoQuantumOpen => 7,
-        Refusal::TimeBackwards => 8,
-        Refusal::TimePastEnd => 9,
-        Refusal::IdLive => 10,
-        Refusal::IdNotLive => 11,
-        Refusal::PriceOrVolumeOutOfRange => 12,
-        Refusal::TooManyOrders => 13,
-        Refusal::DealAboveLeft => 14,
-        Refusal::BadRecord => 15,
-        Refusal::BufferShort => 16,
-        Refusal::LapseLimitOutOfRange => 17,
-        Refusal::StrikesOutOfRange => 18,
-        Refusal::WrongTicket => 19,
-        Refusal::FrameWrong => 20,
-        Refusal::FieldWrong => 21,
+impl From<Refusal> for u32 {
+    ghost from_gives = { λ refusal n. n ≡ number_of refusal };
+
+    fn from(refusal: Refusal) -> u32 {
+        match refusal {
+            Refusal::RowNotSevenWords => 1,
+            Refusal::RowWordOutOfRange => 2,
+            Refusal::ArgumentOutOfRange => 3,
+            Refusal::CellFilled => 4,
+            Refusal::CellBlank => 5,
+            Refusal::QuantumOpen => 6,
+            Refusal::NoQuantumOpen => 7,
+            Refusal::TimeBackwards => 8,
+            Refusal::TimePastEnd => 9,
+            Refusal::IdLive => 10,
+            Refusal::IdNotLive => 11,
+            Refusal::PriceOrVolumeOutOfRange => 12,
+            Refusal::TooManyOrders => 13,
+            Refusal::DealAboveLeft => 14,
+            Refusal::BadRecord => 15,
+            Refusal::BufferShort => 16,
+            Refusal::LapseLimitOutOfRange => 17,
+            Refusal::StrikesOutOfRange => 18,
+            Refusal::WrongTicket => 19,
+            Refusal::FrameWrong => 20,
+            Refusal::FieldWrong => 21,
+        }
     }
 }
 

@@ -1,5 +1,5 @@
 -- What the session's calls make of a pass.
-use Rattle.std.specs.Prelude.{if◌then◌else◌}
+use Rattle.std.specs.Prelude.{if◌then◌else◌, Result, Ok, Err}
 use Prim.Native.Nat.{ℕ, ◌+◌, ◌*◌, ◌≤◌, ◌<◌}
 use native.Mathlib.Omega.{arith}
 use mathlib.Core.Path.{◌≡◌, refl, sym, ap, ◌∙◌, subst}
@@ -13,8 +13,8 @@ use Rattle.rules.specs.declared.Millis.{Millis}
 use Rattle.rules.specs.declared.Steps.{Steps}
 use Rattle.rules.specs.declared.Refusal.{Refusal}
 use Rattle.rules.specs.declared.Refusal.TheVariants.{BufferShort}
-use Rattle.rules.specs.declared.SessionAnswer.{SessionAnswer}
-use Rattle.rules.specs.declared.SessionAnswer.TheVariants as S
+use Rattle.rules.specs.declared.Finished.{Finished}
+use Rattle.rules.specs.declared.Stopped.{Stopped}
 use Rattle.rules.specs.Terms.{paper}
 use Rattle.rules.specs.Stretches.{Stretch, pair_words}
 use Rattle.rules.specs.Answers.{number_of}
@@ -35,66 +35,68 @@ unfolding counted
 counted_finished (Session.accepted k' w' ss) k w n e = (ss, cc, cc)
 counted_finished (Session.refused m at) k w n e = let z : ◌≡◌ {A = ℕ} 0 1 = cc in absurd (omega arith)
 
-abbrev Ended : Session → List ℕ → List ℕ → SessionAnswer → Type 0
+counted_whole : (k w : ℕ) (ss : List Stretch) → counted (Session.accepted k w ss) ≡ Ran.accepted k w (length ss)
+unfolding counted
+counted_whole k w ss = refl
+
+abbrev Ended : Session → List ℕ → List ℕ → Result Finished Stopped → Type 0
 Ended s entry exit r = (shown_session r ≡ ran (length entry) s) × (exit ≡ buffer_after entry s)
 
 -- how a session that ends so ends with a buffer
-halted_ends : (n place : ℕ) (entry : List ℕ) (r : SessionAnswer) → shown_session r ≡ Ran.refused n place → Ended (Session.refused n place) entry entry r
+halted_ends : (n place : ℕ) (entry : List ℕ) (r : Result Finished Stopped) → shown_session r ≡ Ran.refused n place → Ended (Session.refused n place) entry entry r
 unfolding ran front buffer_after
 halted_ends n place entry r e = (e, refl)
 
-short_ends : (k w : ℕ) (ss : List Stretch) (entry : List ℕ) → length entry < 2 * length ss → Ended (Session.accepted k w ss) entry entry (S.Refused BufferShort 0)
+short_ends : (k w : ℕ) (ss : List Stretch) (entry : List ℕ) → length entry < 2 * length ss → Ended (Session.accepted k w ss) entry entry (Err (record { refusal = BufferShort; place = 0 }))
 unfolding ran front buffer_after
 short_ends k w ss entry l = rw (lt-ltb (length entry) (2 * length ss) l) (refl, refl)
 
-written_ends : (k w : ℕ) (ss : List Stretch) (entry exit : List ℕ) (r : SessionAnswer) → 2 * length ss ≤ length entry
+written_ends : (k w : ℕ) (ss : List Stretch) (entry exit : List ℕ) (r : Result Finished Stopped) → 2 * length ss ≤ length entry
     → shown_session r ≡ Ran.accepted k w (length ss) → exit ≡ pair_words ss ++ drop (2 * length ss) entry → Ended (Session.accepted k w ss) entry exit r
 unfolding ran front buffer_after
 written_ends k w ss entry exit r l e f = rw (le-ltb (length entry) (2 * length ss) l, pair_words-length ss) (e, f)
 
-module _ (s : Session) (none none' : List ℕ) (first : SessionAnswer) (p : Passed s none none' first) (entry : List ℕ) where
-  pub ends_refused : (f : Refusal) (place : ℕ) → first ≡ S.Refused f place → Ended s entry entry first
-  ends_refused f place e =
-      let h = counted-stopped s (number_of f) place (sym (ap shown_session e) ∙ p.answer) in
-      subst (λ (t : Session). Ended t entry entry first) (sym h) (halted_ends (number_of f) place entry first (ap shown_session e))
+module _ (s : Session) (none none' entry : List ℕ) where
+  pub ends_refused : (stop : Stopped) → Passed s none none' (Err stop) → Ended s entry entry (Err stop)
+  ends_refused stop p =
+      let h = counted-stopped s (number_of stop.refusal) stop.place p.answer in
+      subst (λ (t : Session). Ended t entry entry (Err stop)) (sym h) (halted_ends (number_of stop.refusal) stop.place entry (Err stop) refl)
 
-  module _ (k : Millis) (w n : ℕ) (e : first ≡ S.Finished k w n) where
-    finds : (ss : List Stretch) × (s ≡ Session.accepted k.0 w ss) × (length ss ≡ n)
-    finds = counted_finished s k.0 w n (sym (ap shown_session e) ∙ p.answer)
+  module _ (first : Finished) (p : Passed s none none' (Ok first)) where
+    finds : (ss : List Stretch) × (s ≡ Session.accepted first.kept.0 first.weight ss) × (length ss ≡ first.pairs)
+    finds = counted_finished s first.kept.0 first.weight first.pairs p.answer
 
-    pub ends_short : length entry < filled_by first → Ended s entry entry (S.Refused BufferShort 0)
+    pub ends_short : length entry < 2 * first.pairs → Ended s entry entry (Err (record { refusal = BufferShort; place = 0 }))
     ends_short l =
         let (ss, is, long) = finds in
-        let few : filled_by first ≡ 2 * n = ap filled_by e in
-        subst (λ (t : Session). Ended t entry entry (S.Refused BufferShort 0)) (sym is) (short_ends k.0 w ss entry (omega arith))
+        subst (λ (t : Session). Ended t entry entry (Err (record { refusal = BufferShort; place = 0 }))) (sym is) (short_ends first.kept.0 first.weight ss entry (omega arith))
 
-    pub ends_written : (exit : List ℕ) (second : SessionAnswer) → filled_by first ≤ length entry → Passed s entry exit second → Ended s entry exit first
+    pub ends_written : (exit : List ℕ) (second : Result Finished Stopped) → 2 * first.pairs ≤ length entry → Passed s entry exit second → Ended s entry exit second
     ends_written exit second l q =
         let (ss, is, long) = finds in
-        let few : filled_by first ≡ 2 * n = ap filled_by e in
-        let shown : shown_session first ≡ Ran.accepted k.0 w (length ss) = ap shown_session e ∙ ap (Ran.accepted k.0 w) (sym long) in
-        subst (λ (t : Session). Ended t entry exit first) (sym is)
-        (written_ends k.0 w ss entry exit first (omega arith) shown (q.words k.0 w ss is (omega arith)))
+        let shown : shown_session second ≡ Ran.accepted first.kept.0 first.weight (length ss) = q.answer ∙ ap counted is ∙ counted_whole first.kept.0 first.weight ss in
+        subst (λ (t : Session). Ended t entry exit second) (sym is)
+        (written_ends first.kept.0 first.weight ss entry exit second (omega arith) shown (q.words first.kept.0 first.weight ss is (omega arith)))
 
 -- ---- the front
 
-front_length : (s : Session) (n : ℕ) (r : SessionAnswer) → shown_session r ≡ ran n s → (length (front n s) ≡ filled_by r) × (filled_by r ≤ n)
+front_length : (s : Session) (n : ℕ) (r : Result Finished Stopped) → shown_session r ≡ ran n s → (length (front n s) ≡ filled_by r) × (filled_by r ≤ n)
 unfolding ran front
 front_length (Session.accepted k w ss) n r e = go (ltb n (2 * length ss)) refl r e
   where
-    go : (b : Bool) → ltb n (2 * length ss) ≡ b → (r : SessionAnswer) → shown_session r ≡ (if b then Ran.refused 16 0 else Ran.accepted k w (length ss))
+    go : (b : Bool) → ltb n (2 * length ss) ≡ b → (r : Result Finished Stopped) → shown_session r ≡ (if b then Ran.refused 16 0 else Ran.accepted k w (length ss))
         → (length (if b then [] else pair_words ss) ≡ filled_by r) × (filled_by r ≤ n)
-    go true f (S.Finished a b c) e = let z : ◌≡◌ {A = ℕ} 0 1 = cc in absurd (omega arith)
-    go true f (S.Refused a b) e = (refl, omega arith)
-    go false f (S.Finished a b c) e =
-        let m : c ≡ length ss = cc in
+    go true f (Ok x) e = let z : ◌≡◌ {A = ℕ} 0 1 = cc in absurd (omega arith)
+    go true f (Err x) e = (refl, omega arith)
+    go false f (Ok x) e =
+        let m : x.pairs ≡ length ss = cc in
         let l = ltb-false n (2 * length ss) f in
         (pair_words-length ss ∙ omega arith, omega arith)
-    go false f (S.Refused a b) e = let z : ◌≡◌ {A = ℕ} 0 1 = cc in absurd (omega arith)
-front_length (Session.refused m at) n (S.Finished a b c) e = let z : ◌≡◌ {A = ℕ} 0 1 = cc in absurd (omega arith)
-front_length (Session.refused m at) n (S.Refused a b) e = (refl, omega arith)
+    go false f (Err x) e = let z : ◌≡◌ {A = ℕ} 0 1 = cc in absurd (omega arith)
+front_length (Session.refused m at) n (Ok x) e = let z : ◌≡◌ {A = ℕ} 0 1 = cc in absurd (omega arith)
+front_length (Session.refused m at) n (Err x) e = (refl, omega arith)
 
-pub front_is : (s : Session) (entry exit : List ℕ) (r : SessionAnswer) (n : ℕ) → Ended s entry exit r → n ≡ filled_by r
+pub front_is : (s : Session) (entry exit : List ℕ) (r : Result Finished Stopped) (n : ℕ) → Ended s entry exit r → n ≡ filled_by r
     → (take n exit ≡ front (length entry) s) × (n ≤ length exit)
 unfolding buffer_after
 front_is s entry exit r n e is =
@@ -111,7 +113,7 @@ unfolding counted one_number
 number-counted (Session.accepted k w ss) = refl
 number-counted (Session.refused n place) = refl
 
-pub number_is : (s : Session) (entry exit : List ℕ) (r : SessionAnswer) → Passed s entry exit r → number_by (shown_session r) ≡ one_number s
+pub number_is : (s : Session) (entry exit : List ℕ) (r : Result Finished Stopped) → Passed s entry exit r → number_by (shown_session r) ≡ one_number s
 number_is s entry exit r p = ap number_by p.answer ∙ number-counted s
 
 pub bytes_short : (most : ℕ) (head bytes : List ℕ) (n : ℕ) → (length head ≡ 32 → ⊥) → n ≡ refused_number 1 → n ≡ one_number (session_bytes paper most head bytes)
@@ -125,14 +127,14 @@ by_head most head bytes h e f = (λ i. session paper most (e i) (f i) bytes) ∙
 
 -- ---- the answers' numbers, case by case
 
-pub filled_is : (r : SessionAnswer) (k : Millis) (w n : ℕ) → r ≡ S.Finished k w n → 2 * n ≡ filled_by r
-filled_is r k w n e = sym (ap filled_by e)
+pub filled_is : (r : Result Finished Stopped) (run : Finished) → r ≡ Ok run → 2 * run.pairs ≡ filled_by r
+filled_is r run e = sym (ap filled_by e)
 
-pub refused_is : (r : SessionAnswer) (f : Refusal) (place n : ℕ) → r ≡ S.Refused f place → n ≡ refused_number (number_of f) + place → n ≡ number_by (shown_session r)
-refused_is r f place n e is = is ∙ sym (ap (λ (x : SessionAnswer). number_by (shown_session x)) e)
+pub refused_is : (r : Result Finished Stopped) (stop : Stopped) (n : ℕ) → r ≡ Err stop → n ≡ refused_number (number_of stop.refusal) + stop.place → n ≡ number_by (shown_session r)
+refused_is r stop n e is = is ∙ sym (ap (λ (x : Result Finished Stopped). number_by (shown_session x)) e)
 
 pub bytes_number : (most : ℕ) (head bytes : List ℕ) → length head ≡ 32 → {row : List ℕ} {sp : Steps} → row ≡ leading_words head → sp ≡ leading_price head
-    → (n : ℕ) (r : SessionAnswer) (none none' : List ℕ) → n ≡ number_by (shown_session r) → Passed (session paper most row sp bytes) none none' r
+    → (n : ℕ) (r : Result Finished Stopped) (none none' : List ℕ) → n ≡ number_by (shown_session r) → Passed (session paper most row sp bytes) none none' r
     → n ≡ one_number (session_bytes paper most head bytes)
 bytes_number most head bytes l {row} {sp} e f n r none none' is p =
     is ∙ number_is (session paper most row sp bytes) none none' r p ∙ ap one_number (by_head most head bytes l e f)

@@ -31,7 +31,7 @@ use Rattle.rules.proofs.Stretches.{stretches_ext, stretches_false, stretches-new
 use Rattle.rules.proofs.Refusals.{event_passes}
 use Rattle.rules.proofs.Bounds.{event_bounds_none, event_bounds_more}
 use Rattle.kept_pairs.proofs.Pairs.{length_snoc, before_in, before_ext}
-use Rattle.session_pass.proofs.Loop.{not_whole}
+use Rattle.session_pass.proofs.Passes.{not_whole}
 use Rattle.record_runs.proofs.Walks.{takes}
 use Rattle.record_runs.proofs.Openings.{cell_of}
 use Rattle.session_pass.proofs.Runs.{walks, runs_end, session_begun, cell_inside}

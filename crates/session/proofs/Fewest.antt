@@ -6,7 +6,9 @@ use mathlib.Core.Path.{◌≡◌, sym, ◌∙◌}
 use mathlib.Core.List.{List}
 use lib.ListN.{length}
 use Rattle.rules.specs.declared.Steps.{Steps}
-use Rattle.rules.specs.declared.SessionAnswer.{SessionAnswer}
+use Rattle.std.specs.Prelude.{Result}
+use Rattle.rules.specs.declared.Finished.{Finished}
+use Rattle.rules.specs.declared.Stopped.{Stopped}
 use Rattle.rules.specs.Terms.{paper}
 use Rattle.rules.specs.Session.{shown_session, Ran, most_records, session, ran, front, buffer_after}
 use Rattle.rules.specs.Fewest.{FewestWritten}
@@ -14,7 +16,7 @@ use Rattle.rules.proofs.Written.{front_fewest, buffer_fewest}
 
 module _ (words : List ℕ) (sp : Steps) (bytes before : List ℕ) (kept weight pairs : ℕ) where
   -- `session::run_within`, and `session::run` with `most_records`: clauses `answer` and `words`
-  pub run_fewest : (most : ℕ) (r : SessionAnswer) (after : List ℕ)
+  pub run_fewest : (most : ℕ) (r : Result Finished Stopped) (after : List ℕ)
       → shown_session r ≡ ran (length before) (session paper most words sp bytes)
       → after ≡ buffer_after before (session paper most words sp bytes)
       → shown_session r ≡ Ran.accepted kept weight pairs

@@ -32,7 +32,7 @@ use Rattle.rules.proofs.Bounds.{row_bounds, after-snoc}
 use Rattle.session_pass.specs.Internal.{book_with}
 use Rattle.record_runs.proofs.Walks.{takes}
 use Rattle.record_runs.proofs.Openings.{step_send, cell_of, opened}
-use Rattle.session_pass.proofs.Loop.{not_whole}
+use Rattle.session_pass.proofs.Passes.{not_whole}
 use Rattle.session_pass.proofs.Runs.{walks, runs_end, closed_cell_lem, closed-weight, session_begun, cell_inside}
 
 -- the book after the events, as their calls leave it

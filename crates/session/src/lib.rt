@@ -5,28 +5,31 @@
 // crates/session_pass/proofs and crates/record_runs/proofs remove the book.
 #![tactic(auto)]
 
-ghost use Rattle.std.specs.Prelude.{◌≡◌, ◌≤◌, length};
+ghost use Rattle.std.specs.Prelude.{◌≡◌, ◌≤◌, length, Err};
+ghost use Rattle.rules.specs.declared.Refusal.TheVariants.{BufferShort};
 ghost use Rattle.rules.specs.Terms.{paper};
 ghost use Rattle.rules.specs.Session.{shown_session, most_records, session, session_bytes, ran, front as frontOf, buffer_after, one_number};
 ghost use Rattle.session.specs.Internal.{filled_by, number_by};
 
-use rules::{Refusal, SessionAnswer, Steps};
+use rules::{Finished, Refusal, Steps, Stopped};
 
 // The words that a run has filled.
-pub fn filled(answer: SessionAnswer) -> usize
+pub fn filled(answer: Result<Finished, Stopped>) -> usize
     ensures { result ≡ filled_by answer }
 {
     match answer {
-        SessionAnswer::Finished {
-            kept: _,
-            weight: _,
-            pairs,
-        } => 2 * (pairs as usize),
-        SessionAnswer::Refused {
-            refusal: _,
-            place: _,
-        } => 0,
+        Ok(run) => 2 * (run.pairs as usize),
+        Err(_) => 0,
     }
+}
+
+fn too_short() -> Result<Finished, Stopped>
+    ensures { result ≡ Err (record { refusal = BufferShort; place = 0 }) }
+{
+    Err(Stopped {
+        refusal: Refusal::BufferShort,
+        place: 0,
+    })
 }
 
 // Two passes: the first writes nothing of the caller's, the second only where nothing is refused and the pairs fit.
@@ -37,36 +40,26 @@ fn passes(
     records: &[u8],
     scratch: &mut [u32],
     buffer: &mut [u32],
-) -> SessionAnswer
+) -> Result<Finished, Stopped>
     requires { most ≤ 4000000 }
     ensures answer { shown_session result ≡ ran (length buffer.old) (session paper most row.now sp records.now) }
     ensures words { buffer.new ≡ buffer_after buffer.old (session paper most row.now sp records.now) }
 {
-    let first = session_pass::pass(most, row, sp, records, scratch);
-    match first {
-        SessionAnswer::Refused {
-            refusal: _,
-            place: _,
-        } => first,
-        SessionAnswer::Finished {
-            kept: _,
-            weight: _,
-            pairs: _,
-        } => {
-            if buffer.len() < filled(first) {
-                return SessionAnswer::Refused {
-                    refusal: Refusal::BufferShort,
-                    place: 0,
-                };
-            }
-            session_pass::pass(most, row, sp, records, buffer);
-            first
-        }
+    let first = session_pass::pass(most, row, sp, records, scratch)?;
+    if buffer.len() < 2 * (first.pairs as usize) {
+        return too_short();
     }
+    session_pass::pass(most, row, sp, records, buffer)
 }
 
 // The first pass has a word of its own, where no pair fits.
-fn within(most: u32, row: &[u32], sp: Steps, records: &[u8], buffer: &mut [u32]) -> SessionAnswer
+fn within(
+    most: u32,
+    row: &[u32],
+    sp: Steps,
+    records: &[u8],
+    buffer: &mut [u32],
+) -> Result<Finished, Stopped>
     requires { most ≤ 4000000 }
     ensures answer { shown_session result ≡ ran (length buffer.old) (session paper most row.now sp records.now) }
     ensures words { buffer.new ≡ buffer_after buffer.old (session paper most row.now sp records.now) }
@@ -76,7 +69,7 @@ fn within(most: u32, row: &[u32], sp: Steps, records: &[u8], buffer: &mut [u32])
 }
 
 // The first session call. On success the front of the buffer has the pairs; on a refusal the buffer keeps its contents.
-pub fn run(row: &[u32], sp: Steps, records: &[u8], buffer: &mut [u32]) -> SessionAnswer
+pub fn run(row: &[u32], sp: Steps, records: &[u8], buffer: &mut [u32]) -> Result<Finished, Stopped>
     ensures answer { shown_session result ≡ ran (length buffer.old) (session paper most_records row.now sp records.now) }
     ensures words { buffer.new ≡ buffer_after buffer.old (session paper most_records row.now sp records.now) }
 {
@@ -90,7 +83,7 @@ pub fn run_within(
     sp: Steps,
     records: &[u8],
     buffer: &mut [u32],
-) -> SessionAnswer
+) -> Result<Finished, Stopped>
     ensures answer { shown_session result ≡ ran (length buffer.old) (session paper most row.now sp records.now) }
     ensures words { buffer.new ≡ buffer_after buffer.old (session paper most row.now sp records.now) }
 {
@@ -111,16 +104,12 @@ pub fn front<'a, 'b, 'c>(
     &mut buffer[..n]
 }
 
-fn one_number(answer: SessionAnswer) -> u64
+fn one_number(answer: Result<Finished, Stopped>) -> u64
     ensures { result ≡ number_by (shown_session answer) }
 {
     match answer {
-        SessionAnswer::Finished {
-            kept,
-            weight: _,
-            pairs: _,
-        } => kept.0 as u64,
-        SessionAnswer::Refused { refusal, place } => c_answers::refused_at(refusal, place),
+        Ok(run) => u64::from(run.kept.0),
+        Err(stop) => c_answers::refused_at(stop.refusal, stop.place),
     }
 }
 

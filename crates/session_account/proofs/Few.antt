@@ -25,8 +25,8 @@ use Rattle.rules.proofs.Refusals.{event_passes}
 use Rattle.rules.proofs.Bounds.{event_bounds_none, event_bounds_more}
 use Rattle.record_runs.proofs.Walks.{takes}
 use Rattle.record_runs.proofs.Openings.{open_refusal, cell_of}
-use Rattle.session_account.specs.Internal.{parts_of}
-use Rattle.session_account.proofs.Parts.{parts_ext, parts-run}
+use Rattle.session_account.specs.Gathered.{parts_of, parts_ext}
+use Rattle.session_account.proofs.Parts.{parts-run}
 use Rattle.session_account.proofs.Runs.{walks, runs_end, account-begins}
 
 -- ---- a piece adds one at most

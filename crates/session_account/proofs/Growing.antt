@@ -17,7 +17,7 @@ use Rattle.record_runs.proofs.Buffers.{put-fits as words_fit, put_not as words-n
 use Rattle.session_account.specs.declared.Times.{Times}
 use Rattle.session_account.specs.declared.Marks.{Marks}
 use Rattle.session_account.specs.Internal.{last_start, last_word, times_at, marks_at, Holds, put_part, added_to, Addable, begun_at}
-use Rattle.session_account.proofs.Parts.{word_most, parts_ext, parts-run, parts-account, tiles_few, time_run, time_most, time_ext}
+use Rattle.session_account.proofs.Parts.{word_most, parts-run, parts-account, tiles_few, time_run, time_most}
 
 -- ---- the last one
 
@@ -87,10 +87,6 @@ times_run f a d s h =
     let run = time_run f a d s h in
     times_path (sym (run kept)) (sym (run has_no_bid)) (sym (run has_no_ask)) (sym (run neither)) (sym (run crossed)) (sym (run wide))
 
-times_ext : (f g : ℕ → State) (n : ℕ) → ((m : ℕ) → m < n → f m ≡ g m) → times_at f n ≡ times_at g n
-unfolding times_at
-times_ext f g n h = let e = time_ext f g n h in times_path (e kept) (e has_no_bid) (e has_no_ask) (e neither) (e crossed) (e wide)
-
 -- what counts is the time or none
 pub room : (b : Bool) (t d r : ℕ) → r ≡ (if b then d else 0) → t + d ≤ 86400000 → t + r ≤ 86400000
 room true t d r e l = omega arith
@@ -114,12 +110,6 @@ addable f n d l =
 marks_path : {a b c d e f : ℕ} {s t : Times} → a ≡ b → c ≡ d → e ≡ f → s ≡ t
     → ◌≡◌ {A = Marks} (record { stretches = a; start = c; state = e; times = s }) (record { stretches = b; start = d; state = f; times = t })
 marks_path x y z w = λ i. record { stretches = x i; start = y i; state = z i; times = w i }
-
-pub marks_ext : (f g : ℕ → State) (n : ℕ) → ((m : ℕ) → m < n → f m ≡ g m) → marks_at f n ≡ marks_at g n
-unfolding marks_at
-marks_ext f g n h =
-    let same = parts_ext f g n h in
-    marks_path (ap length same) (ap last_start same) (ap last_word same) (times_ext f g n h)
 
 module _ (f : ℕ → State) (n : ℕ) (m : Marks) (is : m ≡ marks_at f n) where
   pub stretches_are : m.stretches ≡ length (parts f n)

@@ -1,8 +1,8 @@
 pub mod Parts
 pub mod Growing
-pub mod Steps
+pub mod Gathered
 pub mod Runs
-pub mod Loop
+pub mod Halting
 pub mod Endings
 pub mod Theorems
 pub mod Few

@@ -13,7 +13,7 @@ use borrow.Author.Tests.{eq-eqb, eqb-true, eqb-false, leb-true, leb-false}
 use Rattle.lists.specs.Lists.{sum, All}
 use Rattle.rules.specs.States.{State, kept, has_no_bid, has_no_ask, neither, crossed, wide, state_word}
 use Rattle.rules.specs.Accounts.{Part, part, same_state, grown_by, parts, in_state, time_in, Tiles, Stays, Differ, AccountOf}
-use Rattle.lists.proofs.Counting.{count_stretch, count_le, count_ext}
+use Rattle.lists.proofs.Counting.{count_stretch, count_le}
 
 -- ---- states by their words
 
@@ -58,11 +58,6 @@ same_false s t e h = eqb-false (state_word s) (state_word t) e (ap state_word h)
 parts-one : (f : ℕ → State) (n : ℕ) (s : State) → f n ≡ s → parts f (suc n) ≡ grown_by s n 1 (parts f n)
 unfolding parts
 parts-one f n s e = rw e refl
-
-pub parts_ext : (f g : ℕ → State) (n : ℕ) → ((m : ℕ) → m < n → f m ≡ g m) → parts f n ≡ parts g n
-unfolding parts
-parts_ext f g zero h = refl
-parts_ext f g (suc n) h = rw (parts_ext f g n (λ m l. h m (omega arith)), h n (omega arith)) refl
 
 grown-behind : (s : State) (a d : ℕ) (p : Part) (ps : List Part) → 1 ≤ length ps → grown_by s a d (p ∷ ps) ≡ p ∷ grown_by s a d ps
 unfolding grown_by
@@ -244,7 +239,3 @@ module _ (f : ℕ → State) (a d : ℕ) (s : State) (h : (m : ℕ) → a ≤ m 
 pub time_most : (f : ℕ → State) (n : ℕ) (s : State) → time_in f n s ≤ n
 unfolding time_in
 time_most f n s = count_le (in_state f s) n
-
-pub time_ext : (f g : ℕ → State) (n : ℕ) → ((m : ℕ) → m < n → f m ≡ g m) → (s : State) → time_in f n s ≡ time_in g n s
-unfolding time_in
-time_ext f g n h s = count_ext (in_state f s) (in_state g s) n (λ m l. ap (λ (x : State). same_state x s) (h m l))

@@ -1,28 +1,14 @@
--- What the private functions promise to each other: the one value of a run so far for the accepted events, and what a pass over the
--- records has found and written.
-use Rattle.std.specs.Prelude.{ℕ, ◌+◌, ◌*◌, ◌≤◌, ◌<◌, ◌≡◌, List, [], ◌∷◌, ◌++◌, Bool, true, eqb, length, drop, if◌then◌else◌}
+-- What the private functions promise to each other: the stretches so far, and what a pass over the records has found and written.
+use Rattle.std.specs.Prelude.{ℕ, ◌+◌, ◌*◌, ◌≤◌, ◌<◌, ◌≡◌, List, [], ◌∷◌, ◌++◌, Bool, eqb, length, drop, if◌then◌else◌, Result}
 use Rattle.rules.specs.declared.Millis.{Millis}
-use Rattle.rules.specs.declared.Row.{Row}
-use Rattle.rules.specs.declared.SpreadRule.{SpreadRule}
-use Rattle.rules.specs.declared.Event.{Event}
-use Rattle.rules.specs.Terms.{paper}
 use Rattle.rules.specs.Units.{millis}
-use Rattle.rules.specs.Rows.{good_row_for}
-use Rattle.rules.specs.Orders.{present}
-use Rattle.rules.specs.States.{State, kept, has_no_bid, has_no_ask, neither, crossed, wide, state_word, state_at}
-use Rattle.rules.specs.Answers.{Outcome}
-use Rattle.rules.specs.Bounds.{EventBounds}
-use Rattle.rules.specs.Session.{records_of}
-use Rattle.rules.specs.Accounts.{Part, parts, time_in, totals, part_words, Account, AccountRan, account_records}
-use Rattle.clock.specs.declared.Duty.{Duty}
-use Rattle.clock.specs.Clocks.{duty_of, clock_of}
-use Rattle.events.specs.Represents.{table_after}
-use Rattle.record_runs.specs.Internal.{Front, put_words, refusal_by, followed, book_of}
-use Rattle.session_account.specs.declared.AccountAnswer.{AccountAnswer}
+use Rattle.rules.specs.States.{State, kept, has_no_bid, has_no_ask, neither, crossed, wide, state_word}
+use Rattle.rules.specs.Accounts.{Part, parts, time_in, part_words, Account, AccountRan}
+use Rattle.record_runs.specs.Internal.{Front, put_words}
+use Rattle.rules.specs.declared.Stopped.{Stopped}
+use Rattle.session_account.specs.declared.Accounted.{Accounted}
 use Rattle.session_account.specs.declared.Times.{Times}
 use Rattle.session_account.specs.declared.Marks.{Marks}
-use Rattle.session_account.specs.declared.Progress.{Progress}
-use Rattle.session_account.specs.declared.ProgressAfter.{ProgressAfter}
 use Rattle.session_account.specs.Shown.{shown_account}
 
 -- ---- the stretches
@@ -105,58 +91,7 @@ MarksAfter m from to s r entry exit =
     (f : ℕ → State) (base : List ℕ) (state : State) → s ≡ state_word state → m ≡ marks_at f from.0 → ((k : ℕ) → from.0 ≤ k → k < to.0 → f k ≡ state)
     → Holds base (parts f from.0) entry → (r ≡ marks_at f to.0) × Holds base (parts f to.0) exit
 
--- ---- a run so far
-
-unfoldable pub progress_at : Row → SpreadRule → List Event → Progress
-progress_at row sp es = record { clock = clock_of row sp es; marks = marks_at (state_at row sp es) (present es) }
-
-abbrev pub parts_of : Row → SpreadRule → List Event → List Part
-parts_of row sp es = parts (state_at row sp es) (present es)
-
--- they stand for these events
-pub record RepresentsRun (row : Row) (sp : SpreadRule) (es : List Event) (w : Progress) (duty : Duty) (table : List ℕ) : Type 0 where
-  pub bounds : EventBounds row es
-  pub is : w ≡ progress_at row sp es
-  pub duty_is : duty ≡ duty_of row sp
-  pub table_is : table ≡ table_after row es
-
--- a run that some accepted events led to, with the table of their live orders
-pub record ReachedEnd (w : Progress) (duty : Duty) (table : List ℕ) : Type 0 where
-  pub row : Row
-  pub sp : SpreadRule
-  pub events : List Event
-  pub good : good_row_for paper sp row ≡ true
-  pub run : RepresentsRun row sp events w duty table
-
-pub record ReachedRun (w : Progress) (duty : Duty) (table hints : List ℕ) : Type 0 where
-  pub reached : ReachedEnd w duty table
-  pub hinted : length hints ≡ 2048
-
--- what a record promises
-pub record Advanced (w : Progress) (duty : Duty) (o : Outcome Event) (r : ProgressAfter) (table next entry exit : List ℕ) : Type 0 where
-  pub number : (row : Row) (sp : SpreadRule) (es : List Event) → RepresentsRun row sp es w duty table → r.refusal ≡ refusal_by row es o
-  pub orders : (row : Row) (sp : SpreadRule) (es : List Event) → RepresentsRun row sp es w duty table → refusal_by row es o ≡ 0 → next ≡ table_after row (followed es o)
-  pub progress : (row : Row) (sp : SpreadRule) (es : List Event) (base : List ℕ) → RepresentsRun row sp es w duty table → Holds base (parts_of row sp es) entry
-      → refusal_by row es o ≡ 0 → (r.progress ≡ progress_at row sp (followed es o)) × Holds base (parts_of row sp (followed es o)) exit
-
--- what the end promises
-abbrev pub FinalAnswer : Progress → Duty → List ℕ → AccountAnswer → List ℕ → List ℕ → Type 0
-FinalAnswer w duty table r entry exit =
-    (row : Row) (sp : SpreadRule) (es : List Event) (base : List ℕ) → RepresentsRun row sp es w duty table → Holds base (parts_of row sp es) entry
-    → (shown_account r ≡ AccountRan.accepted (totals (state_at row sp es) row.length.0) (length (parts (state_at row sp es) row.length.0)))
-    × Holds base (parts (state_at row sp es) row.length.0) exit
-
 -- ---- a whole pass
-
--- in the loop over the records: at the byte that the record of this place starts with
-pub record LoopState (most : ℕ) (row : Row) (sp : SpreadRule) (bytes base : List ℕ) (w : Progress) (duty : Duty) (at place : ℕ) (table buffer : List ℕ) : Type 0 where
-  pub events : List Event
-  pub run : RepresentsRun row sp events w duty table
-  pub holds : Holds base (parts_of row sp events) buffer
-  pub inside : at ≤ length bytes
-  pub small : place ≤ most + 1
-  pub runs : (cell : ℕ)
-      → account_records paper most 1 (book_of cell row sp []) (records_of bytes) ≡ account_records paper most place (book_of cell row sp events) (records_of (drop at bytes))
 
 -- the milliseconds of each state and the number of stretches, or the refusal and its place, whatever the buffer
 unfoldable pub counted : Account → AccountRan
@@ -164,7 +99,7 @@ counted (Account.accepted times ps) = AccountRan.accepted times (length ps)
 counted (Account.refused number place) = AccountRan.refused number place
 
 -- what a pass over the records promises
-pub record Passed (a : Account) (entry exit : List ℕ) (r : AccountAnswer) : Type 0 where
+pub record Passed (a : Account) (entry exit : List ℕ) (r : Result Accounted Stopped) : Type 0 where
   pub answer : shown_account r ≡ counted a
   pub words : (times : List ℕ) (ps : List Part) → a ≡ Account.accepted times ps → 3 * length ps ≤ length entry
       → exit ≡ part_words ps ++ drop (3 * length ps) entry

@@ -1,24 +1,23 @@
 // The account run: where the time of a session went, as stretches of one state and the milliseconds of each state. Records go through one
 // open quantum, twice where stretches are written, as in a session run.
 //
-// Two passes, as in the session run. The state is worked out before each event and at the end, from the two best keys of the table.
+// Two passes, as in the session run.
 #![tactic(auto)]
 
-ghost use Rattle.std.specs.Prelude.{◌≡◌, ℕ, ◌+◌, ◌≤◌, true, [], length, if◌then◌else◌};
-ghost use Rattle.rules.specs.declared.Row.{Row};
-ghost use Rattle.rules.specs.declared.SpreadRule.{SpreadRule};
+ghost use Rattle.std.specs.Prelude.{◌≡◌, ℕ, ◌+◌, ◌≤◌, true, [], length, Err};
 ghost use Rattle.rules.specs.Terms.{paper};
 ghost use Rattle.rules.specs.Rows.{good_row_for};
 ghost use Rattle.rules.specs.Causes.{good_spread_rule};
-ghost use Rattle.rules.specs.Records.{read_record};
 ghost use Rattle.rules.specs.Session.{most_records, records_of};
 ghost use Rattle.rules.specs.Accounts.{account_records, account, account_ran, account_buffer};
 ghost use Rattle.record_runs.specs.Internal.{book_of};
 ghost use Rattle.session_account.specs.Shown.{shown_account, filled_by};
-ghost use Rattle.session_account.specs.Internal.{put_part, longer_by, begun_at, added_to, Addable, MarksBounds, MarksAfter, ReachedRun, Advanced, ReachedEnd, FinalAnswer, progress_at, Passed};
+ghost use Rattle.session_account.specs.Internal.{put_part, longer_by, begun_at, added_to, Addable, MarksBounds, MarksAfter, Passed};
+ghost use Rattle.session_account.specs.Gathered.{word_after, gathered_parts, onward_parts};
 
 use clock::{Clock, Duty};
-use rules::{Millis, Refusal, Row, RowRead, SpreadRule};
+use record_runs::Gather;
+use rules::{Millis, Refusal, Row, SpreadRule, Stopped};
 
 // The milliseconds of each state.
 #[derive(Clone, Copy)]
@@ -31,11 +30,11 @@ pub struct Times {
     pub wide: Millis,
 }
 
-// The answer of an account run: the milliseconds of each state and the number of stretches, or a refusal and its place.
+// What an account run found: the milliseconds of each state and the number of stretches.
 #[derive(Clone, Copy)]
-pub enum AccountAnswer {
-    Finished { times: Times, stretches: u32 },
-    Refused { refusal: Refusal, place: u32 },
+pub struct Accounted {
+    pub times: Times,
+    pub stretches: u32,
 }
 
 // The stretches so far: how many, where the last one starts, its state's word (6 with none), and the milliseconds of each state.
@@ -45,20 +44,6 @@ struct Marks {
     start: u32,
     state: u32,
     times: Times,
-}
-
-// A run so far.
-#[derive(Clone, Copy)]
-struct Progress {
-    clock: Clock,
-    marks: Marks,
-}
-
-// What a record hands back: the run after it, and the refusal's number or 0.
-#[derive(Clone, Copy)]
-struct ProgressAfter {
-    progress: Progress,
-    refusal: u32,
 }
 
 // Writes the stretch counted n from 0, where it fits.
@@ -135,65 +120,17 @@ fn grow(marks: Marks, from: Millis, to: Millis, state: u32, buffer: &mut [u32]) 
     }
 }
 
-// The event of a record, with the stretches that the time up to it adds; or its refusal.
-fn step(
-    progress: Progress,
-    bytes: &[u8],
-    duty: Duty,
-    table: &mut [u32],
-    hints: &mut [u8],
-    buffer: &mut [u32],
-) -> ProgressAfter
-    requires { ReachedRun progress duty table.old hints.old × (20 ≤ length bytes.now) }
-    ensures { Advanced progress duty (read_record bytes.now) result table.old table.new buffer.old buffer.new }
-{
-    let clock = progress.clock;
-    let marks = progress.marks;
-    let state = order_table::state(table, duty.widest);
-    let fields = record::fields_of(bytes);
-    let stepped = events::step_fields(duty, clock, table, hints, fields);
-    let next = stepped.clock;
-    let refusal = stepped.refusal;
-    if 0 < refusal {
-        return ProgressAfter { progress, refusal };
-    }
-    let from = clock.time;
-    let to = next.time;
-    let grown = grow(marks, from, to, state, buffer);
-    ProgressAfter {
-        progress: Progress {
-            clock: next,
-            marks: grown,
-        },
-        refusal: 0,
-    }
-}
+impl Gather for Marks {
+    type State = u32;
 
-// Time runs on to L; the milliseconds of each state and the number of stretches.
-fn finish(progress: Progress, duty: Duty, table: &[u32], buffer: &mut [u32]) -> AccountAnswer
-    requires { ReachedEnd progress duty table.now }
-    ensures { FinalAnswer progress duty table.now result buffer.old buffer.new }
-{
-    let clock = progress.clock;
-    let marks = progress.marks;
-    let state = order_table::state(table, duty.widest);
-    let from = clock.time;
-    let to = duty.length;
-    let grown = grow(marks, from, to, state, buffer);
-    let times = grown.times;
-    AccountAnswer::Finished {
-        times,
-        stretches: grown.stretches,
-    }
-}
+    ghost state_of = { word_after };
 
-// A quantum opens, and no stretch is there.
-fn begin() -> Progress
-    ensures { (row : Row) (sp : SpreadRule) → result ≡ progress_at row sp [] }
-{
-    Progress {
-        clock: clock::started(),
-        marks: Marks {
+    ghost gathered = { gathered_parts };
+
+    ghost onward = { onward_parts };
+
+    fn begin() -> Marks {
+        Marks {
             stretches: 0,
             start: 0,
             state: 6,
@@ -205,54 +142,41 @@ fn begin() -> Progress
                 crossed: Millis(0),
                 wide: Millis(0),
             },
-        },
+        }
+    }
+
+    // The state is worked out before each event and at the end, from the two best keys of the table.
+    fn state(duty: Duty, _clock: Clock, table: &[u32]) -> u32 {
+        order_table::state(table, duty.widest)
+    }
+
+    fn grow(self, clock: Clock, state: u32, to: Millis, buffer: &mut [u32]) -> Marks {
+        grow(self, clock.time, to, state, buffer)
     }
 }
 
-// One pass over the records: the first refusal, or the account, whose words are written as far as they fit. Bytes after the full
-// records and the limit are one more record, which is refused.
+// One pass over the records: the first refusal, or the account, whose words are written as far as they fit.
 fn run_records(
     most: u32,
     row: Row,
     spread: SpreadRule,
     records: &[u8],
     buffer: &mut [u32],
-) -> AccountAnswer
+) -> Result<Accounted, Stopped>
     requires { (most ≤ 4000000) × (good_row_for paper spread row ≡ true) × (good_spread_rule spread ≡ true) }
     ensures { (cell : ℕ) → Passed (account_records paper most 1 (book_of cell row spread []) (records_of records.now)) buffer.old buffer.new result }
 {
-    let duty = clock::duty_of(row, spread);
-    let mut table = order_table::empty();
-    let mut hints = [0u8; 2048];
-    let mut progress = begin();
-    let mut at: usize = 0;
-    let full = 20 * numbers::min_length(records.len() / 20, numbers::length(most));
-    while at < full {
-        let stepped = step(
-            progress,
-            &records[at..at + 20],
-            duty,
-            &mut table,
-            &mut hints,
-            buffer,
-        );
-        let n = stepped.refusal;
-        if 0 < n {
-            return AccountAnswer::Refused {
-                refusal: rules::refusal_of(n),
-                place: record::place_of(at),
-            };
-        }
-        progress = stepped.progress;
-        at += 20;
-    }
-    if at < records.len() {
-        return AccountAnswer::Refused {
-            refusal: Refusal::BadRecord,
-            place: record::place_of(at),
-        };
-    }
-    finish(progress, duty, &table, buffer)
+    let run = record_runs::run_over::<Marks>(most, row, spread, records, buffer)?;
+    Ok(Accounted {
+        times: run.marks.times,
+        stretches: run.marks.stretches,
+    })
+}
+
+fn refused(refusal: Refusal) -> Result<Accounted, Stopped>
+    ensures { result ≡ Err (record { refusal = refusal; place = 0 }) }
+{
+    Err(Stopped { refusal, place: 0 })
 }
 
 // The row read and a quantum opened, then one pass over the records.
@@ -262,25 +186,18 @@ fn pass(
     spread: SpreadRule,
     records: &[u8],
     buffer: &mut [u32],
-) -> AccountAnswer
+) -> Result<Accounted, Stopped>
     requires { most ≤ 4000000 }
     ensures { Passed (account paper most row.now spread records.now) buffer.old buffer.new result }
 {
-    let read = row::read(row, spread);
-    match read {
-        RowRead::Refused(refusal) => AccountAnswer::Refused { refusal, place: 0 },
-        RowRead::Read(good) => {
+    match row::read(row, spread) {
+        Err(refusal) => refused(refusal),
+        Ok(good) => {
             if !ranges::settlement(spread) {
-                return AccountAnswer::Refused {
-                    refusal: Refusal::ArgumentOutOfRange,
-                    place: 0,
-                };
+                return refused(Refusal::ArgumentOutOfRange);
             }
             if !strike::in_range(spread) {
-                return AccountAnswer::Refused {
-                    refusal: Refusal::StrikesOutOfRange,
-                    place: 0,
-                };
+                return refused(Refusal::StrikesOutOfRange);
             }
             run_records(most, good, spread, records, buffer)
         }
@@ -288,18 +205,12 @@ fn pass(
 }
 
 // The words that a run has filled.
-pub fn filled(answer: AccountAnswer) -> usize
+pub fn filled(answer: Result<Accounted, Stopped>) -> usize
     ensures { result ≡ filled_by answer }
 {
     match answer {
-        AccountAnswer::Finished {
-            times: _,
-            stretches,
-        } => 3 * (stretches as usize),
-        AccountAnswer::Refused {
-            refusal: _,
-            place: _,
-        } => 0,
+        Ok(run) => 3 * (run.stretches as usize),
+        Err(_) => 0,
     }
 }
 
@@ -311,31 +222,16 @@ fn passes(
     records: &[u8],
     scratch: &mut [u32],
     buffer: &mut [u32],
-) -> AccountAnswer
+) -> Result<Accounted, Stopped>
     requires { most ≤ 4000000 }
     ensures answer { shown_account result ≡ account_ran (length buffer.old) (account paper most row.now spread records.now) }
     ensures words { buffer.new ≡ account_buffer buffer.old (account paper most row.now spread records.now) }
 {
-    let first = pass(most, row, spread, records, scratch);
-    match first {
-        AccountAnswer::Refused {
-            refusal: _,
-            place: _,
-        } => first,
-        AccountAnswer::Finished {
-            times: _,
-            stretches: _,
-        } => {
-            if buffer.len() < filled(first) {
-                return AccountAnswer::Refused {
-                    refusal: Refusal::BufferShort,
-                    place: 0,
-                };
-            }
-            pass(most, row, spread, records, buffer);
-            first
-        }
+    let first = pass(most, row, spread, records, scratch)?;
+    if buffer.len() < 3 * (first.stretches as usize) {
+        return refused(Refusal::BufferShort);
     }
+    pass(most, row, spread, records, buffer)
 }
 
 // The first pass has a word of its own, where no stretch fits.
@@ -345,7 +241,7 @@ fn within(
     spread: SpreadRule,
     records: &[u8],
     buffer: &mut [u32],
-) -> AccountAnswer
+) -> Result<Accounted, Stopped>
     requires { most ≤ 4000000 }
     ensures answer { shown_account result ≡ account_ran (length buffer.old) (account paper most row.now spread records.now) }
     ensures words { buffer.new ≡ account_buffer buffer.old (account paper most row.now spread records.now) }
@@ -355,7 +251,12 @@ fn within(
 }
 
 // The account run. On success the front of the buffer has the stretches; on a refusal the buffer keeps its contents.
-pub fn run(row: &[u32], spread: SpreadRule, records: &[u8], buffer: &mut [u32]) -> AccountAnswer
+pub fn run(
+    row: &[u32],
+    spread: SpreadRule,
+    records: &[u8],
+    buffer: &mut [u32],
+) -> Result<Accounted, Stopped>
     ensures answer { shown_account result ≡ account_ran (length buffer.old) (account paper most_records row.now spread records.now) }
     ensures words { buffer.new ≡ account_buffer buffer.old (account paper most_records row.now spread records.now) }
 {
@@ -369,7 +270,7 @@ pub fn run_within(
     spread: SpreadRule,
     records: &[u8],
     buffer: &mut [u32],
-) -> AccountAnswer
+) -> Result<Accounted, Stopped>
     ensures answer { shown_account result ≡ account_ran (length buffer.old) (account paper most row.now spread records.now) }
     ensures words { buffer.new ≡ account_buffer buffer.old (account paper most row.now spread records.now) }
 {

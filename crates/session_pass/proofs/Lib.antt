@@ -1,4 +1,3 @@
 pub mod Runs
-pub mod Steps
-pub mod Loop
+pub mod Passes
 pub mod Opened

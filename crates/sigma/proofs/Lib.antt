@@ -1,6 +1,4 @@
 -- Laws about numbers and lists that the crate's proofs cite. Changes and Lists are also for the crates above.
-pub mod Differences
-pub mod Lifted
 pub mod Changes
 pub mod Roots
 pub mod Squares

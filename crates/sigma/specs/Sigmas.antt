@@ -1,8 +1,6 @@
 -- Document 02, W12: sigma, from three R.
-use Rattle.std.specs.Prelude.{ℕ, ◌+◌, ◌-◌, ◌*◌, List, [], ◌∷◌, ◌||◌, leb, ltb, ℤ, pos, nat_abs, ◌+ℤ◌, ◌-ℤ◌, ◌*ℤ◌, length, get_or, drop, if◌then◌else◌}
+use Rattle.std.specs.Prelude.{ℕ, ◌+◌, ◌-◌, ◌*◌, List, [], ◌∷◌, ◌||◌, leb, ltb, ℤ, pos, nat_abs, ◌+ℤ◌, ◌-ℤ◌, ◌*ℤ◌, length, get_or, drop, Option, Some, None, if◌then◌else◌}
 use Rattle.numbers.specs.Greatest.{greatest_up_to}
-use Rattle.sigma.specs.declared.SigmaAnswer.{SigmaAnswer}
-use Rattle.sigma.specs.declared.SigmaAnswer.TheVariants.{Absent, Of}
 use Rattle.sigma.specs.Changes.{changes, bad_prices}
 
 -- "the largest whole number with 18 × sigma² at most the sum": it is no larger than the sum
@@ -29,7 +27,7 @@ sigmas (a ∷ b ∷ []) = []
 sigmas (a ∷ b ∷ c ∷ rs) = sigma_of a b c ∷ sigmas (b ∷ c ∷ rs)
 
 -- the sigma of the last day of some prices: none under four, or where one of its three R has a cause of 22
-unfoldable pub last_sigma : List ℤ → SigmaAnswer
+unfoldable pub last_sigma : List ℤ → Option ℕ
 last_sigma prices =
     let four = drop (length prices - 4) prices in
-    if ltb (length prices) 4 || bad_prices four then Absent else Of (get_or (sigmas (changes four)) 0 0)
+    if ltb (length prices) 4 || bad_prices four then None else Some (get_or (sigmas (changes four)) 0 0)

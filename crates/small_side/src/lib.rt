@@ -13,7 +13,7 @@ ghost use Rattle.small_side.specs.Internal.{Descending, four, level_in};
 
 use rules::Contracts;
 
-// The best key, 0 where no price qualifies, and for how many orders volumes were added up.
+// The best key, 0 where no price qualifies (as in `Level`), and for how many orders volumes were added up.
 #[derive(Clone, Copy)]
 pub struct KeyFound {
     pub key: u32,
@@ -27,24 +27,6 @@ fn packed(key: u32, volume: u32) -> u64
     4294967296 * (key as u64) + volume as u64
 }
 
-fn better(a: u64, b: u64) -> u64
-    ensures { result ≡ max a b }
-{
-    if a < b {
-        return b;
-    }
-    a
-}
-
-fn worse(a: u64, b: u64) -> u64
-    ensures { result ≡ min a b }
-{
-    if a < b {
-        return a;
-    }
-    b
-}
-
 // The depth with one more order's volume, where it was not enough without it.
 fn deeper(depth: u64, order: u64, minimum: Contracts) -> u64
     ensures { result ≡ (if ltb depth minimum.0 then depth + order % 4294967296 else depth) }
@@ -53,15 +35,6 @@ fn deeper(depth: u64, order: u64, minimum: Contracts) -> u64
         return depth + order % 4294967296;
     }
     depth
-}
-
-fn order_where(counts: bool, order: u64, other: u64) -> u64
-    ensures { result ≡ (if counts then order else other) }
-{
-    if counts {
-        return order;
-    }
-    other
 }
 
 // The key at which the depth of four orders, from the best one down, is first enough; 0 where it never is.
@@ -74,10 +47,10 @@ fn down(first: u64, second: u64, third: u64, last: u64, minimum: Contracts) -> u
     let two = deeper(one, second, minimum);
     let three = deeper(two, third, minimum);
     let four = deeper(three, last, minimum);
-    let in_four = order_where(m <= four, last, 0);
-    let in_three = order_where(m <= three, third, in_four);
-    let in_two = order_where(m <= two, second, in_three);
-    let in_one = order_where(m <= one, first, in_two);
+    let in_four = if m <= four { last } else { 0 };
+    let in_three = if m <= three { third } else { in_four };
+    let in_two = if m <= two { second } else { in_three };
+    let in_one = if m <= one { first } else { in_two };
     (in_one / 4294967296) as u32
 }
 
@@ -109,19 +82,10 @@ pub fn best(keys: &[u32], volumes: &[u32], minimum: Contracts) -> KeyFound
     let b = packed(keys[1], volumes[1]);
     let c = packed(keys[2], volumes[2]);
     let d = packed(keys[3], volumes[3]);
-    let p = better(a, b);
-    let q = worse(a, b);
-    let r = better(c, d);
-    let s = worse(c, d);
-    let u = worse(p, r);
-    let v = better(q, s);
-    let key = down(
-        better(p, r),
-        better(u, v),
-        worse(u, v),
-        worse(q, s),
-        minimum,
-    );
+    let (p, q) = (a.max(b), a.min(b));
+    let (r, s) = (c.max(d), c.min(d));
+    let (u, v) = (p.min(r), q.max(s));
+    let key = down(p.max(r), u.max(v), u.min(v), q.min(s), minimum);
     KeyFound {
         key,
         sums: counted(keys, key),

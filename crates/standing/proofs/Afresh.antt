@@ -9,7 +9,9 @@ use mathlib.Core.List.{List, [], ◌∷◌, ◌++◌}
 use mathlib.Core.Bool.{true}
 use lib.ListN.{length, drop}
 use Rattle.standing_rules.specs.declared.Maker.{Maker}
-use Rattle.standing_rules.specs.Calls.{Standing, standing, used, Call, Join, Change, Leave, call_of, after, outcomes_from}
+use Rattle.standing_rules.specs.declared.Call.{Call}
+use Rattle.standing_rules.specs.declared.Call.TheVariants.{Join, Change, Leave}
+use Rattle.standing_rules.specs.Calls.{Standing, standing, used, call_of, after, outcomes_from}
 use Rattle.standing_rules.specs.Roll.{roll_after, Stands}
 use Rattle.standing_rules.proofs.Claim.{claim}
 use Rattle.standing.specs.declared.Ran.{Ran}

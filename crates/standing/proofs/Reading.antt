@@ -1,16 +1,16 @@
 -- A list of words, three at a time: what is read from the front of it, and from a place on.
-use Rattle.std.specs.Prelude.{if◌then◌else◌}
+use Rattle.std.specs.Prelude.{Some, None, is_some, if◌then◌else◌}
 use Prim.Native.Nat.{ℕ, ◌+◌, ◌-◌, ◌*◌, ◌≤◌, ◌<◌}
 use native.Mathlib.Omega.{arith}
 use mathlib.Core.Path.{◌≡◌, refl, sym, ap, subst, ◌∙◌}
 use mathlib.Core.List.{List, [], ◌∷◌}
 use mathlib.Core.Bool.{Bool, true, false, ◌&&◌}
-use lib.Dec.{eqb}
+use lib.Dec.{eqb, leb}
 use lib.ListN.{length, get_or, drop, length-drop}
 use lib.Seq.{get_or-drop, drop-drop}
 use borrow.Author.Tests.{eq-eqb, ne_eqb, eqb-true, eqb-false, le-leb, lt-leb}
-use Rattle.standing_rules.specs.Calls.{Call, asked, call_of}
-use Rattle.standing.specs.declared.Measured.{Measured}
+use Rattle.standing_rules.specs.declared.Call.{Call}
+use Rattle.standing_rules.specs.Calls.{call_of}
 use Rattle.standing.specs.Words.{is_call, readable, calls_of}
 use Rattle.standing.specs.Internal.{measured, can_run, ready_of}
 
@@ -24,7 +24,7 @@ front-readable (a ∷ b ∷ []) h = absurd (omega arith)
 front-readable (a ∷ b ∷ c ∷ rest) h = refl
 
 front-calls : (ws : List ℕ) → 3 ≤ length ws
-    → calls_of ws ≡ (if is_call (get_or ws 0 0) (get_or ws 2 0) then call_of (asked (get_or ws 0 0) (get_or ws 1 0) (get_or ws 2 0)) ∷ calls_of (drop 3 ws) else [])
+    → calls_of ws ≡ (if is_call (get_or ws 0 0) (get_or ws 2 0) then call_of (get_or ws 0 0) (get_or ws 1 0) (get_or ws 2 0) ∷ calls_of (drop 3 ws) else [])
 unfolding calls_of
 front-calls [] h = absurd (omega arith)
 front-calls (a ∷ []) h = absurd (omega arith)
@@ -93,7 +93,7 @@ module _ (ws : List ℕ) (calls at : ℕ) (u : Upto ws calls at) where
   calls_are : at + 3 ≤ length ws → length (calls_of (drop at ws)) ≡ (if test then 1 + length (calls_of (drop (at + 3) ws)) else 0)
   calls_are h =
       ap length (front-calls (drop at ws) (long_rest h))
-      ∙ calls-length (is_call (get_or (drop at ws) 0 0) (get_or (drop at ws) 2 0)) (call_of (asked (get_or (drop at ws) 0 0) (get_or (drop at ws) 1 0) (get_or (drop at ws) 2 0))) (calls_of (drop 3 (drop at ws)))
+      ∙ calls-length (is_call (get_or (drop at ws) 0 0) (get_or (drop at ws) 2 0)) (call_of (get_or (drop at ws) 0 0) (get_or (drop at ws) 1 0) (get_or (drop at ws) 2 0)) (calls_of (drop 3 (drop at ws)))
       ∙ rw (test_is, behind ws at) refl
 
   pub upto_next : at + 3 ≤ length ws → test ≡ true → Upto ws (calls + 1) (at + 3)
@@ -103,26 +103,17 @@ module _ (ws : List ℕ) (calls at : ℕ) (u : Upto ws calls at) where
       let l = u.calls in
       record { inside = h; place = omega arith; whole = readable_is h ∙ rw t refl; calls = omega (arith, k, l) }
 
-  pub upto_bad : at + 3 ≤ length ws → test ≡ false → (record { calls = calls; whole = false }) ≡ measured ws
+  pub upto_bad : at + 3 ≤ length ws → test ≡ false → None ≡ measured ws
   unfolding measured
-  upto_bad h t =
-      let k : length (calls_of (drop at ws)) ≡ 0 = calls_are h ∙ rw t refl in
-      let l = u.calls in
-      let n : calls ≡ length (calls_of ws) = omega (arith, k, l) in
-      let r : false ≡ readable ws = sym (readable_is h ∙ rw t refl) in
-      λ i. record { calls = n i; whole = r i }
+  upto_bad h t = let r : readable ws ≡ false = readable_is h ∙ rw t refl in rw r refl
 
-  pub upto-end : length ws < at + 3 → (record { calls = calls; whole = eqb at (length ws) }) ≡ measured ws
-  unfolding measured
-  upto-end h =
+  -- the end, with nothing left or one or two words
+  left_is : length ws < at + 3 → readable ws ≡ eqb at (length ws)
+  left_is h =
       let e = rest_long ws at in
       let i = u.inside in
       let short : length (drop at ws) < 3 = omega (arith, e) in
-      let k : length (calls_of (drop at ws)) ≡ 0 = ap length (short_calls (drop at ws) short) in
-      let l = u.calls in
-      let n : calls ≡ length (calls_of ws) = omega (arith, k, l) in
-      let r : eqb at (length ws) ≡ readable ws = same at (length ws) (length (drop at ws)) i e ∙ sym (u.whole ∙ short_readable (drop at ws) short) in
-      λ i. record { calls = n i; whole = r i }
+      u.whole ∙ short_readable (drop at ws) short ∙ sym (same at (length ws) (length (drop at ws)) i e)
     where
       same : (a b c : ℕ) → a ≤ b → c ≡ b - a → eqb a b ≡ eqb c 0
       same a b c le q = go (eqb a b) refl
@@ -131,25 +122,58 @@ module _ (ws : List ℕ) (calls at : ℕ) (u : Upto ws calls at) where
           go true w = sym (eq-eqb c 0 (let z = eqb-true a b w in omega (arith, z)))
           go false w = sym (ne_eqb c 0 (λ z. eqb-false a b w (omega (arith, z))))
 
+  pub upto_short : length ws < at + 3 → (at ≡ length ws → ⊥) → None ≡ measured ws
+  unfolding measured
+  upto_short h n = let r : readable ws ≡ false = left_is h ∙ ne_eqb at (length ws) n in rw r refl
+
+  pub upto-end : at ≡ length ws → Some calls ≡ measured ws
+  unfolding measured
+  upto-end h =
+      let e = rest_long ws at in
+      let k : length (calls_of (drop at ws)) ≡ 0 = ap length (short_calls (drop at ws) (omega (arith, e))) in
+      let l = u.calls in
+      let n : calls ≡ length (calls_of ws) = omega (arith, k, l) in
+      let r : readable ws ≡ true = left_is (omega arith) ∙ eq-eqb at (length ws) h in
+      rw r (ap Some n)
+
 -- ---- whether a list can run
 
-module _ (ws : List ℕ) (room : ℕ) (m : Measured) (e : m ≡ measured ws) where
-  whole_is : m.whole ≡ readable ws
+module _ (ws : List ℕ) where
+  pub list_is : is_some (measured ws) ≡ readable ws
   unfolding measured
-  whole_is = ap (λ (x : Measured). x.whole) e
+  list_is = go (readable ws)
+    where
+      go : (b : Bool) → is_some (if b then Some (length (calls_of ws)) else None) ≡ b
+      go true = refl
+      go false = refl
 
-  calls_is : m.calls ≡ length (calls_of ws)
+  none_is : None ≡ measured ws → readable ws ≡ false
+  none_is e = sym list_is ∙ ap is_some (sym e)
+
+  some_is : (n : ℕ) → Some n ≡ measured ws → (readable ws ≡ true) × (n ≡ length (calls_of ws))
   unfolding measured
-  calls_is = ap (λ (x : Measured). x.calls) e
+  some_is n e = go (readable ws) refl e
+    where
+      go : (b : Bool) → readable ws ≡ b → Some n ≡ (if b then Some (length (calls_of ws)) else None) → (readable ws ≡ true) × (n ≡ length (calls_of ws))
+      go true t e = (t, cc)
+      go false t e = cc
 
-  pub ready_none : m.whole ≡ false → (record { calls = 0; fits = false }) ≡ ready_of ws room
-  unfolding ready_of can_run
-  ready_none h = rw (sym whole_is ∙ h) refl
+  module _ (room : ℕ) where
+    pub ready_none : None ≡ measured ws → None ≡ ready_of ws room
+    unfolding ready_of can_run
+    ready_none e = rw (none_is e) refl
 
-  pub ready_short : m.whole ≡ true → room < m.calls → (record { calls = 0; fits = false }) ≡ ready_of ws room
-  unfolding ready_of can_run
-  ready_short h l = rw (sym whole_is ∙ h, lt-leb (length (calls_of ws)) room (subst (λ (k : ℕ). room < k) calls_is l)) refl
+    module _ (n : ℕ) (e : Some n ≡ measured ws) where
+      pub ready_short : room < n → None ≡ ready_of ws room
+      unfolding ready_of can_run
+      ready_short l =
+          let s = some_is n e in
+          let t : leb (length (calls_of ws)) room ≡ false = lt-leb (length (calls_of ws)) room (subst (λ (k : ℕ). room < k) s.1 l) in
+          rw (s.0, t) refl
 
-  pub ready_all : m.whole ≡ true → m.calls ≤ room → (record { calls = m.calls; fits = true }) ≡ ready_of ws room
-  unfolding ready_of can_run
-  ready_all h l = rw (sym whole_is ∙ h, le-leb (length (calls_of ws)) room (subst (λ (k : ℕ). k ≤ room) calls_is l)) (λ i. record { calls = calls_is i; fits = true })
+      pub ready_all : n ≤ room → Some n ≡ ready_of ws room
+      unfolding ready_of can_run
+      ready_all l =
+          let s = some_is n e in
+          let t : leb (length (calls_of ws)) room ≡ true = le-leb (length (calls_of ws)) room (subst (λ (k : ℕ). k ≤ room) s.1 l) in
+          rw (s.0, t) (ap Some s.1)

@@ -1,5 +1,5 @@
 -- A list of calls that runs, one call after the other: records, count and outcomes after the first k of them.
-use Rattle.std.specs.Prelude.{if◌then◌else◌}
+use Rattle.std.specs.Prelude.{Option, Some, None, if◌then◌else◌}
 use Prim.Native.Nat.{ℕ, zero, suc, ◌+◌, ◌*◌, ◌≤◌, ◌<◌}
 use native.Mathlib.Omega.{arith}
 use native.Mathlib.Numerals.{add-one}
@@ -11,11 +11,13 @@ use lib.ListN.{length, get_or, take, drop, set, length-append, length-drop}
 use lib.Seq.{take-suc, drop-cons, set_at, take-length, length-take-le}
 use borrow.Author.Tests.{leb-true}
 use Rattle.lists.proofs.Lists.{both}
-use Rattle.standing_rules.specs.Calls.{Standing, Call, Leave, asked, call_of, wrong, refusal_of, step, after, outcomes_from}
+use Rattle.standing_rules.specs.declared.Maker.{Maker}
+use Rattle.standing_rules.specs.declared.Call.{Call}
+use Rattle.standing_rules.specs.declared.Call.TheVariants.{Leave}
+use Rattle.standing_rules.specs.Calls.{Standing, standing, call_of, wrong, refusal_of, step, after, outcomes_from}
 use Rattle.standing_rules.proofs.Working.{wrong-after}
-use Rattle.standing.specs.declared.Ready.{Ready}
 use Rattle.standing.specs.Words.{is_call, readable, calls_of}
-use Rattle.standing.specs.Internal.{asked_at, can_run, ready_of}
+use Rattle.standing.specs.Internal.{call_at, can_run, ready_of}
 use Rattle.standing.specs.Claim.{ListAnswers}
 
 -- ---- the call at a place
@@ -26,7 +28,7 @@ none = Leave 0
 -- the three words of the call at the place k
 pub record Here (ws : List ℕ) (k : ℕ) : Type 0 where
   pub there : 3 * k + 2 < length ws
-  pub call : call_of (asked_at ws k) ≡ get_or (calls_of ws) k none
+  pub call : call_at ws k ≡ get_or (calls_of ws) k none
   pub good : is_call (get_or ws (3 * k) 0) (get_or ws (3 * k + 2) 0) ≡ true
 
 -- after one call more
@@ -56,7 +58,7 @@ here (a ∷ b ∷ c ∷ rest) (suc k) e h =
     further a b c rest k p.0 (here rest k p.1 (less p.0))
   where
     less : is_call a c ≡ true → k < length (calls_of rest)
-    less p = let l : suc k < suc (length (calls_of rest)) = subst (λ (t : Bool). suc k < length (if t then call_of (asked a b c) ∷ calls_of rest else [])) p h in omega arith
+    less p = let l : suc k < suc (length (calls_of rest)) = subst (λ (t : Bool). suc k < length (if t then call_of a b c ∷ calls_of rest else [])) p h in omega arith
 
 -- ---- one call more
 
@@ -94,13 +96,32 @@ module _ (ws : List ℕ) (s : Standing) (before : List ℕ) where
   abbrev pub noted : ℕ → List ℕ
   noted k = outcomes_from s (upto k) ++ drop k before
 
-  pub ready_is : (r : Ready) → r ≡ ready_of ws (length before) → (r.calls ≡ length running) × (r.fits ≡ fits)
+  pub none_ready : None ≡ ready_of ws (length before) → fits ≡ false
   unfolding ready_of
-  ready_is r e = (ap (λ (x : Ready). x.calls) e ∙ go fits, ap (λ (x : Ready). x.fits) e)
+  none_ready e = go fits e
     where
-      go : (b : Bool) → (if b then length (calls_of ws) else 0) ≡ length (if b then calls_of ws else [])
-      go true = refl
-      go false = refl
+      go : (b : Bool) → ◌≡◌ {A = Option ℕ} None (if b then Some (length (calls_of ws)) else None) → b ≡ false
+      go true e = cc
+      go false e = refl
+
+  pub ready_is : (n : ℕ) → Some n ≡ ready_of ws (length before) → (n ≡ length running) × (fits ≡ true)
+  unfolding ready_of
+  ready_is n e = go fits e
+    where
+      go : (b : Bool) → Some n ≡ (if b then Some (length (calls_of ws)) else None) → (n ≡ length (if b then calls_of ws else [])) × (b ≡ true)
+      go true e = (cc, refl)
+      go false e = cc
+
+  -- nothing runs
+  pub not_run : fits ≡ false → (l : List Maker) (c : ℕ) → standing l c ≡ s → ListAnswers ws s before l before (record { count = c; fits = false })
+  unfolding can_run after
+  not_run e l c h =
+      record {
+        fits = sym e;
+        count = ap (λ (t : Standing). t.count) h;
+        records = ap (λ (t : Standing). t.records) h;
+        outcomes = refl;
+      }
 
   -- what was checked at the start holds before every call
   pub judged-once : (k : ℕ) → wrong (at k) ≡ wrong s
@@ -140,7 +161,7 @@ module _ (ws : List ℕ) (s : Standing) (before : List ℕ) where
     there = let e = runs_on k h in here ws k (parts e).0 (subst (λ (l : List Call). k < length l) (running_is e) h)
 
     abbrev call : Call
-    call = call_of (asked_at ws k)
+    call = call_at ws k
 
     pub inside : 3 * k + 2 < length ws
     inside = there.there

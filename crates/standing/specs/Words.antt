@@ -1,6 +1,8 @@
 -- A list of calls as 32-bit words, three a call: 1 join, 2 change or 3 leave, the maker's number, the rating; a leave's rating is 0.
 use Rattle.std.specs.Prelude.{ℕ, List, [], ◌∷◌, ◌++◌, Bool, true, false, ◌&&◌, ◌||◌, eqb, if◌then◌else◌}
-use Rattle.standing_rules.specs.Calls.{Call, Join, Change, Leave, asked, call_of}
+use Rattle.standing_rules.specs.declared.Call.{Call}
+use Rattle.standing_rules.specs.declared.Call.TheVariants.{Join, Change, Leave}
+use Rattle.standing_rules.specs.Calls.{call_of}
 
 -- three words that say a call: the kind and the rating decide
 unfoldable pub is_call : ℕ → ℕ → Bool
@@ -20,7 +22,7 @@ calls_of (kind ∷ []) = []
 calls_of (kind ∷ number ∷ []) = []
 calls_of (kind ∷ number ∷ rating ∷ rest) =
     let later = calls_of rest in
-    if is_call kind rating then call_of (asked kind number rating) ∷ later else []
+    if is_call kind rating then call_of kind number rating ∷ later else []
 
 -- ---- the words of a list of calls
 

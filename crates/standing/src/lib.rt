@@ -1,29 +1,22 @@
 // The standing of makers in a lent list of records with a count of those used: join, change and leave. The work on records by value is in
 // `standing_rules`.
 //
-// One function works all three calls (`apply`), and join, change and leave are thin over it. It takes the call as three words, kind, number
-// and rating, whatever they are: 1 is a join, 2 a change, any other kind a leave. It judges the records (`judge`), looks through the used
+// One function works all three calls (`apply`), and join, change and leave are thin over it. It judges the records (`judge`), looks through the used
 // ones, decides, and moves one record (`shift`, in either direction): a join moves from the first free place to its own, a change from the
 // old place to the new one, a leave from its place to the last used one. Nothing is sorted again. "a maker twice" cannot be seen from
 // neighbours: a local array of 65,536 marks over the maker number modulo its length says whether a number like this one was met before. It
 // goes on to the end where a fault is found, so a refused call costs what an accepted one does.
 #![tactic(auto)]
 
-ghost use Rattle.std.specs.Prelude.{◌≡◌, ◌+◌, ◌*◌, ◌≤◌, ◌<◌, length, set};
-ghost use Rattle.standing_rules.specs.Calls.{Join, Change, Leave, call_of, standing, wrong, step, answer_of};
+ghost use Rattle.std.specs.Prelude.{◌≡◌, ◌+◌, ◌*◌, ◌≤◌, ◌<◌, length};
+ghost use Rattle.standing_rules.specs.declared.Call.TheVariants.{Join, Change, Leave};
+ghost use Rattle.standing_rules.specs.Calls.{standing, wrong, step, answer_by, answer_of};
 ghost use Rattle.standing_rules.specs.Internal.{seen_in, shifted};
 ghost use Rattle.standing.specs.Words.{is_call, readable};
 ghost use Rattle.standing.specs.Claim.{ListAnswers};
-ghost use Rattle.standing.specs.Internal.{measured, asked_at, ready_of};
+ghost use Rattle.standing.specs.Internal.{measured, call_at, ready_of};
 
-use standing_rules::{Answer, Asked, Checked, Maker, Seen};
-
-// How many calls a list of words has, and whether it is a list of calls.
-#[derive(Clone, Copy)]
-struct Measured {
-    calls: usize,
-    whole: bool,
-}
+use standing_rules::{Call, CallError, Checked, Maker, Seen};
 
 // What a list of calls hands back: the count, and whether it ran.
 #[derive(Clone, Copy)]
@@ -32,28 +25,17 @@ pub struct Ran {
     pub fits: bool,
 }
 
-// How many calls run, all or none.
-#[derive(Clone, Copy)]
-struct Ready {
-    calls: usize,
-    fits: bool,
-}
-
-// What is found of `m` among the first records. The list is lent as one that may change, and is left as it was.
-fn scan(list: &mut [Maker], upto: usize, m: Maker) -> Seen
-    requires { upto ≤ length list.old }
-    ensures { (result ≡ seen_in list.old m upto) × (list.new ≡ list.old) }
+// What is found of `m` among the first records.
+fn scan(list: &[Maker], upto: usize, m: Maker) -> Seen
+    requires { upto ≤ length list.now }
+    ensures { result ≡ seen_in list.now m upto }
 {
     let mut s = Seen {
-        present: false,
-        at: 0,
+        place: None,
         above: 0,
     };
-    let mut i = 0;
-    while i < upto {
-        let r = list[i];
-        s = standing_rules::look_at(s, i, r, m);
-        i += 1;
+    for i in 0..upto {
+        s = standing_rules::look_at(s, i, list[i], m);
     }
     s
 }
@@ -63,199 +45,133 @@ fn shift(list: &mut [Maker], from: usize, to: usize, m: Maker)
     requires { (from < length list.old) × (to < length list.old) }
     ensures { list.new ≡ shifted list.old from to m }
 {
-    let mut i = from;
-    while i != to {
-        let next = standing_rules::toward(i, to);
-        list[i] = list[next];
-        i = next;
+    if from < to {
+        list.copy_within(from + 1..to + 1, from);
+        list[to] = m;
+    } else {
+        list.copy_within(to..from, to + 1);
+        list[to] = m;
     }
-    list[to] = m;
 }
 
 // Whether 23 refuses every call: a count above the records lent, or used ones out of order or a maker twice. Order is seen from
 // neighbours. A maker twice is looked for only among the records before one whose mark was there (`standing_rules::look_back`), so that numbers
 // with a mark of their own cost one look each.
-fn judge(list: &mut [Maker], count: usize) -> bool
-    ensures { (result ≡ wrong (standing list.old count)) × (list.new ≡ list.old) }
+fn judge(list: &[Maker], count: usize) -> bool
+    ensures { result ≡ wrong (standing list.now count) }
 {
     let size = list.len();
-    let n = standing_rules::lesser(count, size);
     let mut marks = [false; 65536];
     let mut s = Checked {
         good: true,
-        last: Maker {
-            number: 0,
-            rating: 0,
-        },
+        last: None,
     };
-    let mut j = 0;
-    while j < n {
+    for j in 0..count.min(size) {
         let m = list[j];
         let before = standing_rules::look_back(&mut marks, j, m.number);
-        let seen = scan(&mut *list, before, m);
-        s = standing_rules::check(s, j, m, seen.present);
-        j += 1;
+        let seen = scan(list, before, m);
+        s = standing_rules::check(s, m, seen.place.is_some());
     }
     standing_rules::is_wrong(size, count, s.good)
 }
 
 // Any call on records that were judged: the used ones are looked through, the answer and the move are decided, and where it is not
 // refused the record moves. `works` of `standing_rules` says that this is what the call is to do.
-fn work(list: &mut [Maker], count: usize, bad: bool, asked: Asked) -> Answer
+fn work(list: &mut [Maker], count: usize, bad: bool, call: Call) -> Result<usize, CallError>
     requires { bad ≡ wrong (standing list.old count) }
-    ensures { (result ≡ answer_of (standing list.old count) (call_of asked)) × (list.new ≡ (step (standing list.old count) (call_of asked)).records) }
+    ensures { (answer_by count result ≡ answer_of (standing list.old count) call) × (list.new ≡ (step (standing list.old count) call).records) }
 {
     let size = list.len();
-    let n = standing_rules::lesser(count, size);
-    let m = standing_rules::record_of(asked);
-    let seen = scan(&mut *list, n, m);
-    let p = standing_rules::decide(asked, size, count, bad, seen);
-    if p.refusal != 0 {
-        return Answer {
-            count: p.count,
-            refusal: p.refusal,
-        };
-    }
-    let from = p.from;
-    let to = p.to;
-    shift(&mut *list, from, to, m);
-    Answer {
-        count: p.count,
-        refusal: p.refusal,
-    }
+    let m = standing_rules::record_of(call);
+    let seen = scan(list, count.min(size), m);
+    let p = standing_rules::decide(call, size, count, bad, seen)?;
+    shift(list, p.from, p.to, m);
+    Ok(p.count)
 }
 
-// Any call, as three words: the records are judged, and the call is worked.
-pub fn apply(list: &mut [Maker], count: usize, asked: Asked) -> Answer
-    ensures { (result ≡ answer_of (standing list.old count) (call_of asked)) × (list.new ≡ (step (standing list.old count) (call_of asked)).records) }
+// Any call: the records are judged, and the call is worked.
+pub fn apply(list: &mut [Maker], count: usize, call: Call) -> Result<usize, CallError>
+    ensures { (answer_by count result ≡ answer_of (standing list.old count) call) × (list.new ≡ (step (standing list.old count) call).records) }
 {
-    let bad = judge(&mut *list, count);
-    work(&mut *list, count, bad, asked)
+    let bad = judge(list, count);
+    work(list, count, bad, call)
 }
 
-// A maker joins with a rating. This, `change` and `leave` are `apply` at one kind.
-pub fn join(list: &mut [Maker], count: usize, m: Maker) -> Answer
-    ensures { (result ≡ answer_of (standing list.old count) (Join m)) × (list.new ≡ (step (standing list.old count) (Join m)).records) }
+// A maker joins with a rating. This, `change` and `leave` are `apply` at one call.
+pub fn join(list: &mut [Maker], count: usize, m: Maker) -> Result<usize, CallError>
+    ensures { (answer_by count result ≡ answer_of (standing list.old count) (Join m)) × (list.new ≡ (step (standing list.old count) (Join m)).records) }
 {
-    let asked = Asked {
-        kind: 1,
-        number: m.number,
-        rating: m.rating,
-    };
-    apply(&mut *list, count, asked)
+    apply(list, count, Call::Join(m))
 }
 
 // A maker's rating becomes another.
-pub fn change(list: &mut [Maker], count: usize, m: Maker) -> Answer
-    ensures { (result ≡ answer_of (standing list.old count) (Change m)) × (list.new ≡ (step (standing list.old count) (Change m)).records) }
+pub fn change(list: &mut [Maker], count: usize, m: Maker) -> Result<usize, CallError>
+    ensures { (answer_by count result ≡ answer_of (standing list.old count) (Change m)) × (list.new ≡ (step (standing list.old count) (Change m)).records) }
 {
-    let asked = Asked {
-        kind: 2,
-        number: m.number,
-        rating: m.rating,
-    };
-    apply(&mut *list, count, asked)
+    apply(list, count, Call::Change(m))
 }
 
 // A maker leaves.
-pub fn leave(list: &mut [Maker], count: usize, number: u32) -> Answer
-    ensures { (result ≡ answer_of (standing list.old count) (Leave number)) × (list.new ≡ (step (standing list.old count) (Leave number)).records) }
+pub fn leave(list: &mut [Maker], count: usize, number: u32) -> Result<usize, CallError>
+    ensures { (answer_by count result ≡ answer_of (standing list.old count) (Leave number)) × (list.new ≡ (step (standing list.old count) (Leave number)).records) }
 {
-    let asked = Asked {
-        kind: 3,
-        number,
-        rating: 0,
-    };
-    apply(&mut *list, count, asked)
+    apply(list, count, Call::Leave(number))
 }
 
 // ---- a list of calls, as words
 
 // Whether a kind and a rating are a call's.
+#[tactic(auto, unfolding(crate::specs::Words::is_call))]
 pub fn is_call(kind: u32, rating: u32) -> bool
     ensures { result ≡ is_call kind rating }
 {
-    if kind == 1 {
-        return true;
+    match kind {
+        1 | 2 => true,
+        3 => rating == 0,
+        _ => false,
     }
-    if kind == 2 {
-        return true;
-    }
-    if kind == 3 {
-        return rating == 0;
-    }
-    false
 }
 
-// The calls from the first on, as far as they are whole: the list is one where nothing is left.
-fn measure(words: &[u32]) -> Measured
+// How many calls some words are; none where they are no list of calls.
+fn measure(words: &[u32]) -> Option<usize>
     ensures { result ≡ measured words.now }
 {
-    let mut calls: usize = 0;
-    let mut at: usize = 0;
-    while at + 3 <= words.len() {
-        if !is_call(words[at], words[at + 2]) {
-            return Measured {
-                calls,
-                whole: false,
-            };
+    let calls = words.len() / 3;
+    for k in 0..calls {
+        if !is_call(words[3 * k], words[3 * k + 2]) {
+            return None;
         }
-        calls += 1;
-        at += 3;
     }
-    Measured {
-        calls,
-        whole: at == words.len(),
+    if 3 * calls != words.len() {
+        return None;
     }
+    Some(calls)
 }
 
 // Whether some words are a list of calls.
 pub fn is_list(words: &[u32]) -> bool
     ensures { result ≡ readable words.now }
 {
-    let m = measure(words);
-    m.whole
+    measure(words).is_some()
 }
 
-// Whether a list of calls can run, with a word for each outcome.
-fn make_ready(words: &[u32], room: usize) -> Ready
+// How many calls run, with a word for each outcome: all of a list, or none.
+fn count_ready(words: &[u32], room: usize) -> Option<usize>
     ensures { result ≡ ready_of words.now room }
 {
-    let m = measure(words);
-    if !m.whole {
-        return Ready {
-            calls: 0,
-            fits: false,
-        };
+    let calls = measure(words)?;
+    if room < calls {
+        return None;
     }
-    if room < m.calls {
-        return Ready {
-            calls: 0,
-            fits: false,
-        };
-    }
-    Ready {
-        calls: m.calls,
-        fits: true,
-    }
+    Some(calls)
 }
 
-fn call_at(words: &[u32], k: usize) -> Asked
+// A call is three words where C lends them.
+fn call_at(words: &[u32], k: usize) -> Call
     requires { 3 * k + 2 < length words.now }
-    ensures { result ≡ asked_at words.now k }
+    ensures { result ≡ call_at words.now k }
 {
-    Asked {
-        kind: words[3 * k],
-        number: words[3 * k + 1],
-        rating: words[3 * k + 2],
-    }
-}
-
-fn note(outcomes: &mut [u32], k: usize, n: u32)
-    requires { k < length outcomes.old }
-    ensures { outcomes.new ≡ set outcomes.old k n }
-{
-    outcomes[k] = n;
+    Call::from_words(words[3 * k], words[3 * k + 1], words[3 * k + 2])
 }
 
 // Runs a list of calls, each on the records and the count that the one before left, and writes each call's outcome, 0 or the refusal's
@@ -264,20 +180,22 @@ fn note(outcomes: &mut [u32], k: usize, n: u32)
 pub fn run(list: &mut [Maker], count: usize, words: &[u32], outcomes: &mut [u32]) -> Ran
     ensures { ListAnswers words.now (standing list.old count) outcomes.old list.new outcomes.new result }
 {
-    let ready = make_ready(words, outcomes.len());
-    let calls = ready.calls;
-    let bad = judge(&mut *list, count);
+    let Some(calls) = count_ready(words, outcomes.len()) else {
+        return Ran { count, fits: false };
+    };
+    let bad = judge(list, count);
     let mut c = count;
-    let mut k = 0;
-    while k < calls {
-        let asked = call_at(words, k);
-        let answer = work(&mut *list, c, bad, asked);
-        note(&mut *outcomes, k, answer.refusal);
-        c = answer.count;
-        k += 1;
+    for k in 0..calls {
+        outcomes[k] = match work(list, c, bad, call_at(words, k)) {
+            Ok(after) => {
+                c = after;
+                0
+            }
+            Err(error) => u32::from(error),
+        };
     }
     Ran {
         count: c,
-        fits: ready.fits,
+        fits: true,
     }
 }

@@ -2,7 +2,7 @@
 --     marked_is   a mark is there exactly where a record before has left it
 --     look_back   whether the maker has a record before is seen from as many as the mark says
 --     good_is     what was checked is whether the records are sorted, each maker once
-use Rattle.std.specs.Prelude.{if◌then◌else◌}
+use Rattle.std.specs.Prelude.{Option, Some, is_some, if◌then◌else◌}
 use Prim.Native.Nat.{ℕ, zero, suc, ◌≤◌, ◌<◌, ◌%◌, min}
 use native.Mathlib.Omega.{arith}
 use native.Mathlib.Nat.{mod-lt, min-eq_left}
@@ -12,7 +12,7 @@ use mathlib.Core.Bool.{Bool, true, false, not, ◌&&◌, ◌||◌, and-false, or
 use lib.Dec.{eqb, ltb}
 use lib.ListN.{length, take, get_or, set, length-set, length-replicate, get_or-replicate}
 use lib.Seq.{take-suc, get_or-set_same, get_or-set_other}
-use borrow.Author.Tests.{eq-eqb, ne_eqb, eqb-true, eqb-false, ltb-false}
+use borrow.Author.Tests.{eq-eqb, eqb-true, eqb-false, ltb-false}
 use Rattle.lists.specs.Lists.{any, every}
 use Rattle.lists.proofs.Lists.{both}
 use Rattle.lists.proofs.Members.{any_append, any_none, none_any}
@@ -63,11 +63,11 @@ module _ (k : ℕ) (some : 0 < k) (l : List Maker) where
       go r h false q = refl
 
   -- looking back as far as the mark says finds whether the maker has a record before
-  pub look_back : (n : ℕ) (m : Maker) → n ≤ length l → (seen_in l m (back_to (marks_in k l n) k n m.number)).present ≡ present m.number (take n l)
+  pub look_back : (n : ℕ) (m : Maker) → n ≤ length l → is_some (seen_in l m (back_to (marks_in k l n) k n m.number)).place ≡ present m.number (take n l)
   unfolding seen_in
   look_back n m h = go (get_or (marks_in k l n) (m.number % k) false) refl
     where
-      go : (b : Bool) → get_or (marks_in k l n) (m.number % k) false ≡ b → (seen_in l m (if b then n else 0)).present ≡ present m.number (take n l)
+      go : (b : Bool) → get_or (marks_in k l n) (m.number % k) false ≡ b → is_some (seen_in l m (if b then n else 0)).place ≡ present m.number (take n l)
       go true e = (found l m n h).present
       go false e = sym (unmarked n m.number (sym (marked_is n m.number h) ∙ e))
 
@@ -86,28 +86,28 @@ behind-all xs x m e = every_append (λ r. above r m) xs (x ∷ []) ∙ go (above
     go false q = and-false (every (λ r. above r m) xs)
 
 module _ (l : List Maker) where
-  last_is : (n : ℕ) → (checked_in l (suc n)).last ≡ get_or l n none
+  last_is : (n : ℕ) → (checked_in l (suc n)).last ≡ Some (get_or l n none)
   unfolding checked_in check_of
   last_is n = refl
 
   -- the test of the last one is the test of all
-  behind_is : (n : ℕ) → n < length l → sorted (take n l) ≡ true → is_behind n (checked_in l n).last (get_or l n none) ≡ every (λ r. above r (get_or l n none)) (take n l)
-  unfolding every
+  behind_is : (n : ℕ) → n < length l → sorted (take n l) ≡ true → is_behind (checked_in l n).last (get_or l n none) ≡ every (λ r. above r (get_or l n none)) (take n l)
+  unfolding every checked_in
   behind_is zero h e = refl
   behind_is (suc n) h e =
       let split = take-suc l n none (omega arith) in
-      rw (ne_eqb (suc n) 0 (λ q. omega arith)) (ap (λ (r : Maker). above r (get_or l (suc n) none)) (last_is n)
-      ∙ sym (behind-all (take n l) (get_or l n none) (get_or l (suc n) none) (ap sorted (sym split) ∙ e)) ∙ ap (every (λ r. above r (get_or l (suc n) none))) (sym split))
+      ap (λ (o : Option Maker). is_behind o (get_or l (suc n) none)) (last_is n)
+      ∙ sym (behind-all (take n l) (get_or l n none) (get_or l (suc n) none) (ap sorted (sym split) ∙ e)) ∙ ap (every (λ r. above r (get_or l (suc n) none))) (sym split)
 
   pub good_is : (n : ℕ) → n ≤ length l → (checked_in l n).good ≡ sorted (take n l) && once (take n l)
   unfolding checked_in check_of sorted once
   good_is zero h = refl
   good_is (suc n) h =
-      ap (λ (b : Bool). b && (is_behind n (checked_in l n).last (get_or l n none) && not (present (get_or l n none).number (take n l)))) (good_is n (omega arith))
+      ap (λ (b : Bool). b && (is_behind (checked_in l n).last (get_or l n none) && not (present (get_or l n none).number (take n l)))) (good_is n (omega arith))
       ∙ go (sorted (take n l)) refl
       ∙ sym (rw (take-suc l n none h, sorted_more (take n l) (get_or l n none), once_more (take n l) (get_or l n none)) refl)
     where
-      go : (s : Bool) → sorted (take n l) ≡ s → (s && once (take n l)) && (is_behind n (checked_in l n).last (get_or l n none) && not (present (get_or l n none).number (take n l)))
+      go : (s : Bool) → sorted (take n l) ≡ s → (s && once (take n l)) && (is_behind (checked_in l n).last (get_or l n none) && not (present (get_or l n none).number (take n l)))
           ≡ (s && every (λ r. above r (get_or l n none)) (take n l)) && (once (take n l) && not (present (get_or l n none).number (take n l)))
       go true e = rw (behind_is n h e) (and_swap true (once (take n l)) (every (λ r. above r (get_or l n none)) (take n l)) (not (present (get_or l n none).number (take n l))))
       go false e = refl

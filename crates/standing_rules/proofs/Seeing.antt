@@ -1,5 +1,5 @@
 -- What a look through the first records finds, in the words of the standing.
-use Rattle.std.specs.Prelude.{if◌then◌else◌}
+use Rattle.std.specs.Prelude.{Option, Some, None, is_some, IfSome, unwrap_or, if◌then◌else◌}
 use Prim.Native.Nat.{ℕ, zero, suc, ◌+◌, ◌≤◌, ◌<◌, zero-le}
 use native.Mathlib.Omega.{arith}
 use mathlib.Core.Path.{◌≡◌, refl, sym, ap, subst, ◌∙◌}
@@ -30,7 +30,7 @@ many_append p (x ∷ xs) ys = omega (arith, many_append p xs ys)
 
 -- what was found after the records xs
 pub record MakerSeen (m : Maker) (xs : List Maker) (s : Seen) : Type 0 where
-  pub present : s.present ≡ present m.number xs
+  pub present : is_some s.place ≡ present m.number xs
   pub above : s.above ≡ others_above m xs
 
 found-present : (t p : Bool) → (if t then true else p) ≡ p || (t || false)
@@ -45,24 +45,38 @@ found-above false true n = omega arith
 found-above false false n = omega arith
 
 -- the fields of one step
-look_present : (s : Seen) (i : ℕ) (r m : Maker) → (look_of s i r m).present ≡ (if is_of m.number r then true else s.present)
+look_place : (s : Seen) (i : ℕ) (r m : Maker) → (look_of s i r m).place ≡ (if is_of m.number r then Some i else s.place)
 unfolding look_of
-look_present s i r m = refl
+look_place s i r m = refl
+
+present_by : (t : Bool) (i : ℕ) (o : Option ℕ) → is_some (if t then Some i else o) ≡ (if t then true else is_some o)
+present_by true i o = refl
+present_by false i o = refl
+
+look_present : (s : Seen) (i : ℕ) (r m : Maker) → is_some (look_of s i r m).place ≡ (if is_of m.number r then true else is_some s.place)
+look_present s i r m = ap is_some (look_place s i r m) ∙ present_by (is_of m.number r) i s.place
+
+-- the place, 0 where there is none
+abbrev pub at_of : Seen → ℕ
+at_of s = unwrap_or s.place 0
+
+at_by : (t : Bool) (i : ℕ) (o : Option ℕ) → unwrap_or (if t then Some i else o) 0 ≡ (if t then i else unwrap_or o 0)
+at_by true i o = refl
+at_by false i o = refl
 
 look_above : (s : Seen) (i : ℕ) (r m : Maker) → (look_of s i r m).above ≡ (if is_of m.number r then s.above else if above r m then s.above + 1 else s.above)
 unfolding look_of
 look_above s i r m = refl
 
-look_at : (s : Seen) (i : ℕ) (r m : Maker) → (look_of s i r m).at ≡ (if is_of m.number r then i else s.at)
-unfolding look_of
-look_at s i r m = refl
+look_at : (s : Seen) (i : ℕ) (r m : Maker) → at_of (look_of s i r m) ≡ (if is_of m.number r then i else at_of s)
+look_at s i r m = ap (λ (o : Option ℕ). unwrap_or o 0) (look_place s i r m) ∙ at_by (is_of m.number r) i s.place
 
 found-next : (m r : Maker) (xs : List Maker) (s : Seen) (i : ℕ) → MakerSeen m xs s → MakerSeen m (xs ++ (r ∷ [])) (look_of s i r m)
 unfolding every any how_many
 found-next m r xs s i f =
     record {
       present = look_present s i r m
-          ∙ found-present (is_of m.number r) s.present
+          ∙ found-present (is_of m.number r) (is_some s.place)
           ∙ ap (λ (b : Bool). b || (is_of m.number r || false)) f.present
           ∙ sym (any_append (is_of m.number) xs (r ∷ []));
       above = look_above s i r m
@@ -89,11 +103,16 @@ above-le l m (suc n) = subst (λ (k : ℕ). k ≤ suc n) (sym (look_above (seen_
     go false true k h = omega arith
     go false false k h = omega arith
 
--- a maker who is seen was looked at
-pub some_seen : (l : List Maker) (m : Maker) (n : ℕ) → (seen_in l m n).present ≡ true → 0 < n
+-- a maker's place is among those that were looked at
+pub place_seen : (l : List Maker) (m : Maker) (n : ℕ) → IfSome (seen_in l m n).place (λ at. at < n)
 unfolding seen_in
-some_seen l m zero e = absurd (true≢false (sym e))
-some_seen l m (suc n) e = omega arith
+place_seen l m zero = tt
+place_seen l m (suc n) = subst (λ (o : Option ℕ). IfSome o (λ at. at < suc n)) (sym (look_place (seen_in l m n) n (get_or l n none) m)) (go (is_of m.number (get_or l n none)) (seen_in l m n).place (place_seen l m n))
+  where
+    go : (t : Bool) (o : Option ℕ) → IfSome o (λ at. at < n) → IfSome (if t then Some n else o) (λ at. at < suc n)
+    go true o h = omega arith
+    go false None h = tt
+    go false (Some at) h = omega (arith, h)
 
 -- ---- the maker's place
 
@@ -135,12 +154,12 @@ or_right true false e f = refl
 or_right false false e f = absurd (true≢false (sym e))
 
 pub place : (l : List Maker) (m : Maker) (n : ℕ) → n ≤ length l → once (take n l) ≡ true → present m.number (take n l) ≡ true
-    → Place m.number (take n l) (seen_in l m n).at
+    → Place m.number (take n l) (at_of (seen_in l m n))
 unfolding seen_in any
 place l m zero h o p = absurd (true≢false (sym p))
 place l m (suc n) h o p =
     subst (λ (k : ℕ). Place m.number (take (suc n) l) k) (sym (look_at (seen_in l m n) n r m))
-    (subst (λ (xs : List Maker). Place m.number xs (if is_of m.number r then n else (seen_in l m n).at)) (sym split)
+    (subst (λ (xs : List Maker). Place m.number xs (if is_of m.number r then n else (at_of (seen_in l m n)))) (sym split)
     (go (is_of m.number r) refl (λ q. place l m n (omega arith) parts.0 q)))
   where
     r : Maker
@@ -155,7 +174,7 @@ place l m (suc n) h o p =
     there : (present m.number (take n l) || (is_of m.number r || false)) ≡ true
     there = sym (any_append (is_of m.number) (take n l) (r ∷ [])) ∙ ap (present m.number) (sym split) ∙ p
 
-    go : (t : Bool) → is_of m.number r ≡ t → (present m.number (take n l) ≡ true → Place m.number (take n l) (seen_in l m n).at)
-        → Place m.number (take n l ++ (r ∷ [])) (if t then n else (seen_in l m n).at)
+    go : (t : Bool) → is_of m.number r ≡ t → (present m.number (take n l) ≡ true → Place m.number (take n l) (at_of (seen_in l m n)))
+        → Place m.number (take n l ++ (r ∷ [])) (if t then n else (at_of (seen_in l m n)))
     go true t q = place_last m.number (take n l) r n (length-take-le n l (omega arith)) t (subst (λ (k : ℕ). present k (take n l) ≡ false) (eqb-true r.number m.number t) (not-true (present r.number (take n l)) parts.1))
-    go false t q = place-before m.number (take n l) r (seen_in l m n).at (q (or_right (present m.number (take n l)) (is_of m.number r) there t)) t
+    go false t q = place-before m.number (take n l) r (at_of (seen_in l m n)) (q (or_right (present m.number (take n l)) (is_of m.number r) there t)) t

@@ -1,99 +1,57 @@
--- A record that is taken out at one place and put in at another, the records between moving by one place, one after the other: the list
--- while a hole is at i is the rest with something put in there.
-use Rattle.std.specs.Prelude.{if◌then◌else◌}
-use Prim.Native.Nat.{ℕ, suc, ◌+◌, ◌-◌, ◌≤◌, ◌<◌}
+-- A record that is taken out at one place and put in at another, the records between moving by one place: as a part of the list copied by one
+-- place, and a store.
+use Prim.Native.Nat.{ℕ, ◌+◌, ◌-◌, ◌≤◌, ◌<◌}
 use native.Mathlib.Omega.{arith}
 use native.Mathlib.Numerals.{add-one}
-use mathlib.Core.Path.{◌≡◌, refl, sym, ap, subst, ◌∙◌}
+use mathlib.Core.Path.{◌≡◌, sym, ap, ◌∙◌}
 use mathlib.Core.List.{List, [], ◌∷◌, ◌++◌, append_assoc}
-use mathlib.Core.Bool.{Bool, true, false}
-use lib.Dec.{ltb}
-use lib.ListN.{length, take, drop, set, get_or, length-append, length-take, length-drop}
-use lib.Seq.{take-suc, drop-cons, split_at, set_at, get_or_at, length-take-le, get_or-append-add}
-use borrow.Author.Tests.{ltb-true, ltb-false}
-use Rattle.standing_rules.specs.Internal.{inserted, removed, shifted, nearer}
+use lib.ListN.{length, take, drop, set, get_or, length-append, length-drop, take-append-drop}
+use lib.Seq.{take-suc, drop-cons, drop-drop, take-add, set_at, length-take-le, paste}
+use Rattle.standing_rules.specs.Internal.{inserted, removed, shifted}
 use Rattle.standing_rules.proofs.Placing.{inserted_between}
 
-module _ {A : Type 0} (d : A) where
-  pub length_removed : (l : List A) (i : ℕ) → i < length l → length (removed l i) + 1 ≡ length l
-  length_removed l i h = simp (length-append, length-take, length-drop) (omega arith)
+module _ {A : Type 0} (d : A) (l : List A) (from to : ℕ) (m : A) where
+  -- the record is put in between a front and a rest that are the list without it
+  put_between : (front rest : List A) → length front ≡ to → removed l from ≡ front ++ rest → front ++ (m ∷ rest) ≡ shifted l from to m
+  unfolding shifted
+  put_between front rest e f = sym (ap (λ (z : List A). inserted z to m) f ∙ inserted_between front rest to m e)
 
-  pub length_inserted : (l : List A) (i : ℕ) (m : A) → i ≤ length l → length (inserted l i m) ≡ length l + 1
-  length_inserted l i m h = simp (length-append, length-take, length-drop) (omega arith)
+  -- those after it, as far as `to`, move towards the front
+  pub moved_down : from ≤ to → to < length l → set (paste l from (drop (from + 1) l) (to + 1 - (from + 1))) to m ≡ shifted l from to m
+  moved_down le h =
+      let some : to + 1 - (from + 1) ≡ to - from = omega arith in
+      let end : from + (to - from) ≡ to = omega arith in
+      let behind = drop (from + 1) l in
+      let part = take (to - from) behind in
+      let rest = drop (to + 1) l in
+      let parted : length part ≡ to - from = length-take-le (to - from) behind (omega (arith, length-drop (from + 1) l)) in
+      let fronted : length (take from l) ≡ from = length-take-le from l (omega arith) in
+      let long : length (take from l ++ part) ≡ to = omega (arith, length-append (take from l) part) in
+      let tail : drop to l ≡ get_or l to d ∷ rest = drop-cons l to d h ∙ ap (λ (k : ℕ). get_or l to d ∷ drop k l) (sym (add-one to)) in
+      let last : from + 1 + (to - from) ≡ to + 1 = omega arith in
+      let without : removed l from ≡ take from l ++ part ++ rest =
+      ap (λ (z : List A). take from l ++ z)
+      (sym (take-append-drop (to - from) behind) ∙ ap (λ (z : List A). part ++ z) (drop-drop (to - from) (from + 1) l ∙ ap (λ (k : ℕ). drop k l) last))
+      ∙ sym (append_assoc (take from l) part rest) in
+      ap (λ (n : ℕ). set (paste l from behind n) to m) some
+      ∙ ap (λ (z : List A). set (take from l ++ part ++ z) to m) (ap (λ (k : ℕ). drop k l) end ∙ tail)
+      ∙ set_at (take from l ++ part) (get_or l to d) rest m to long
+      ∙ put_between (take from l ++ part) rest long without
 
-  -- the hole is first where the record is
-  pub shift_start : (l : List A) (i : ℕ) → i < length l → l ≡ inserted (removed l i) i (get_or l i d)
-  shift_start l i h =
-      split_at l i d h
-      ∙ ap (λ (k : ℕ). take i l ++ (get_or l i d ∷ drop k l)) (sym (add-one i))
-      ∙ sym (inserted_between (take i l) (drop (i + 1) l) i (get_or l i d) (length-take-le i l (omega arith)))
-
-  -- something else in the hole
-  refill : (l : List A) (i : ℕ) (v m : A) → i ≤ length l → set (inserted l i v) i m ≡ inserted l i m
-  refill l i v m h = set_at (take i l) v (drop i l) m i (length-take-le i l h)
-
-  -- the list around the hole, one more record before it
-  wider : (l : List A) (j : ℕ) (v : A) → j < length l → inserted l (suc j) v ≡ take j l ++ (get_or l j d ∷ (v ∷ drop (suc j) l))
-  wider l j v h = rw (take-suc l j d h) (append_assoc (take j l) (get_or l j d ∷ []) (v ∷ drop (suc j) l))
-
-  tighter : (l : List A) (j : ℕ) (v : A) → j < length l → inserted l j v ≡ take j l ++ (v ∷ (get_or l j d ∷ drop (suc j) l))
-  tighter l j v h = ap (λ (t : List A). take j l ++ (v ∷ t)) (drop-cons l j d h)
-
-  -- the record after the hole is the next of the rest, the one before it the last
-  behind : (l : List A) (j : ℕ) (v : A) → j < length l → get_or (inserted l j v) (suc j) d ≡ get_or l j d
-  behind l j v h =
-      let e : length (take j l) + 1 ≡ suc j = omega (arith, length-take-le j l (omega arith)) in
-      ap (λ (z : List A). get_or z (suc j) d) (tighter l j v h)
-      ∙ subst (λ (k : ℕ). get_or (take j l ++ (v ∷ (get_or l j d ∷ drop (suc j) l))) k d ≡ get_or l j d) e
-      (get_or-append-add (take j l) (v ∷ (get_or l j d ∷ drop (suc j) l)) 1 d)
-
-  before : (l : List A) (j : ℕ) (v : A) → j < length l → get_or (inserted l (suc j) v) j d ≡ get_or l j d
-  before l j v h =
-      ap (λ (z : List A). get_or z j d) (wider l j v h)
-      ∙ get_or_at (take j l) (get_or l j d) (v ∷ drop (suc j) l) d j (length-take-le j l (omega arith))
-
-  step_up : (l : List A) (j : ℕ) (v : A) → j < length l → set (inserted l j v) j (get_or (inserted l j v) (suc j) d) ≡ inserted l (suc j) (get_or (inserted l j v) (suc j) d)
-  step_up l j v h =
-      subst (λ (w : A). set (inserted l j v) j w ≡ inserted l (suc j) w) (sym (behind l j v h))
-      (refill l j v (get_or l j d) (omega arith) ∙ tighter l j (get_or l j d) h ∙ sym (wider l j (get_or l j d) h))
-
-  step_down : (l : List A) (j : ℕ) (v : A) → j < length l → set (inserted l (suc j) v) (suc j) (get_or (inserted l (suc j) v) j d) ≡ inserted l j (get_or (inserted l (suc j) v) j d)
-  step_down l j v h =
-      subst (λ (w : A). set (inserted l (suc j) v) (suc j) w ≡ inserted l j w) (sym (before l j v h))
-      (refill l (suc j) v (get_or l j d) h ∙ wider l j (get_or l j d) h ∙ sym (tighter l j (get_or l j d) h))
-
-  -- one step of the hole
-  pub shift_step : (l : List A) (i to : ℕ) (v : A) → (i ≡ to → ⊥) → i ≤ length l → to ≤ length l
-      → set (inserted l i v) i (get_or (inserted l i v) (nearer i to) d) ≡ inserted l (nearer i to) (get_or (inserted l i v) (nearer i to) d)
-  shift_step l i to v n h k = go (ltb i to) refl
-    where
-      go : (t : Bool) → ltb i to ≡ t
-          → set (inserted l i v) i (get_or (inserted l i v) (if t then i + 1 else i - 1) d) ≡ inserted l (if t then i + 1 else i - 1) (get_or (inserted l i v) (if t then i + 1 else i - 1) d)
-      go true e = rw (add-one i) (step_up l i v (omega (arith, ltb-true i to e)))
-      go false e =
-          let q : suc (i - 1) ≡ i = omega (arith, ltb-false i to e) in
-          subst (λ (k : ℕ). set (inserted l k v) k (get_or (inserted l k v) (i - 1) d) ≡ inserted l (i - 1) (get_or (inserted l k v) (i - 1) d)) q
-          (step_down l (i - 1) v (omega (arith, ltb-false i to e)))
-
-pub shift_end : {A : Type 0} (d : A) (l : List A) (from to : ℕ) (v m : A) → to ≤ length (removed l from) → set (inserted (removed l from) to v) to m ≡ shifted l from to m
-unfolding shifted
-shift_end d l from to v m h = refill d (removed l from) to v m h
-
--- ---- the way
-
-way_cases : (i to : ℕ) (P : ℕ → Type 0) → (i < to → P (i + 1)) → (to ≤ i → P (i - 1)) → P (nearer i to)
-way_cases i to P f g = go (ltb i to) refl
-  where
-    go : (t : Bool) → ltb i to ≡ t → P (if t then i + 1 else i - 1)
-    go true e = f (ltb-true i to e)
-    go false e = g (ltb-false i to e)
-
-pub way_within : (i to n : ℕ) → i ≤ n → to ≤ n → nearer i to ≤ n
-way_within i to n h k = way_cases i to (λ j. j ≤ n) (λ l. omega arith) (λ l. omega arith)
-
--- how far it is
-abbrev pub apart : ℕ → ℕ → ℕ
-apart i to = (i - to) + (to - i)
-
-pub way_less : (i to : ℕ) → (i ≡ to → ⊥) → apart (nearer i to) to < apart i to
-way_less i to n = way_cases i to (λ j. apart j to < apart i to) (λ l. omega arith) (λ l. omega arith)
+  -- those before it, from `to` on, move towards the end
+  pub moved_up : to ≤ from → from < length l → set (paste l (to + 1) (drop to l) (from - to)) to m ≡ shifted l from to m
+  moved_up le h =
+      let end : to + 1 + (from - to) ≡ from + 1 = omega arith in
+      let start : to + (from - to) ≡ from = omega arith in
+      let part = take (from - to) (drop to l) in
+      let behind = drop (from + 1) l in
+      let rest = part ++ behind in
+      let long : length (take to l) ≡ to = length-take-le to l (omega arith) in
+      let head : take (to + 1) l ≡ take to l ++ (get_or l to d ∷ []) = ap (λ (k : ℕ). take k l) (add-one to) ∙ take-suc l to d (omega arith) in
+      let without : removed l from ≡ take to l ++ rest =
+      ap (λ (z : List A). z ++ behind) (ap (λ (k : ℕ). take k l) (sym start) ∙ take-add to (from - to) l) ∙ append_assoc (take to l) part behind in
+      ap (λ (k : ℕ). set (take (to + 1) l ++ part ++ drop k l) to m) end
+      ∙ ap (λ (z : List A). set (z ++ part ++ behind) to m) head
+      ∙ ap (λ (z : List A). set z to m) (append_assoc (take to l ++ (get_or l to d ∷ [])) part behind ∙ append_assoc (take to l) (get_or l to d ∷ []) rest)
+      ∙ set_at (take to l) (get_or l to d) rest m to long
+      ∙ put_between (take to l) rest long without

@@ -1,5 +1,5 @@
 -- What was found and decided does what the call is to do: the refusal, the count and the records of `step`.
-use Rattle.std.specs.Prelude.{if◌then◌else◌}
+use Rattle.std.specs.Prelude.{is_some, if◌then◌else◌}
 use Prim.Native.Nat.{ℕ, zero, suc, ◌+◌, ◌-◌, ◌≤◌, ◌<◌, min}
 use native.Mathlib.Omega.{arith}
 use native.Mathlib.Nat.{min-eq_left}
@@ -18,14 +18,12 @@ use Rattle.lists.proofs.Members.{or_false}
 use Rattle.rules.proofs.Refusals.{passed}
 use Rattle.standing_rules.specs.declared.Maker.{Maker}
 use Rattle.standing_rules.specs.declared.Seen.{Seen}
-use Rattle.standing_rules.specs.declared.Plan.{Plan}
-use Rattle.standing_rules.specs.declared.Answer.{Answer}
 use Rattle.standing_rules.specs.Order.{above, sorted, is_of, present, once}
-use Rattle.standing_rules.specs.Calls.{Standing, standing, used, Call, Join, Change, Leave, wrong, refusal_of, placed, without, left, changed, step, answer_of, shown, after}
-use Rattle.standing_rules.specs.Internal.{seen_in, removed, inserted, shifted, record_of, judged, accepted, planned}
+use Rattle.standing_rules.specs.Calls.{Standing, standing, used, Call, Join, Change, Leave, wrong, refusal_of, placed, without, left, changed, step, Answer, answer_of, shown, after}
+use Rattle.standing_rules.specs.Internal.{seen_in, removed, inserted, shifted, record_of, judged, Plan, accepted, planned}
 use Rattle.standing_rules.proofs.Placing.{many_filter, many_le, inserted-append, inserted_between, placed_at, length_placed, sorted-placed, once-placed, without_absent, absent_without, sorted-without, once-without, length_without}
 use Rattle.standing_rules.proofs.Deciding.{wrong-judged}
-use Rattle.standing_rules.proofs.Seeing.{found, Place, place, above-le}
+use Rattle.standing_rules.proofs.Seeing.{found, Place, place, at_of, above-le}
 
 -- ---- refused or not
 
@@ -183,15 +181,15 @@ module _ (l : List Maker) (c : ℕ) (m : Maker) where
       }
 
   -- the maker's record is taken out
-  taken : (p : OtherPasses s m.number) → (seen.at < c) × (removed l seen.at ≡ without m.number us ++ drop c l)
+  taken : (p : OtherPasses s m.number) → ((at_of seen) < c) × (removed l (at_of seen) ≡ without m.number us ++ drop c l)
   taken p =
-      let at : Place m.number us seen.at = place l m c p.right.within p.right.each_once p.there in
-      let h : seen.at < length us = at.inside in (
-        subst (λ (k : ℕ). seen.at < k) (length_used s p.right) h,
-        ap (λ (z : List Maker). removed z seen.at) (sym (take-append-drop c l)) ∙ removed-append us (drop c l) seen.at h ∙ ap (λ (z : List Maker). z ++ drop c l) at.taken,
+      let at : Place m.number us (at_of seen) = place l m c p.right.within p.right.each_once p.there in
+      let h : (at_of seen) < length us = at.inside in (
+        subst (λ (k : ℕ). (at_of seen) < k) (length_used s p.right) h,
+        ap (λ (z : List Maker). removed z (at_of seen)) (sym (take-append-drop c l)) ∙ removed-append us (drop c l) (at_of seen) h ∙ ap (λ (z : List Maker). z ++ drop c l) at.taken,
       )
 
-  change_moves : OtherPasses s m.number → Moved l seen.at seen.above m (placed m (without m.number us) ++ drop c l)
+  change_moves : OtherPasses s m.number → Moved l (at_of seen) seen.above m (placed m (without m.number us) ++ drop c l)
   unfolding shifted
   change_moves p =
       let t = taken p in
@@ -207,7 +205,7 @@ module _ (l : List Maker) (c : ℕ) (m : Maker) where
             ∙ ap (λ (z : List Maker). z ++ drop c l) (ap (λ (j : ℕ). inserted (without m.number us) j m) k ∙ placed_at m (without m.number us) (sorted-without m.number us p.right.in_order));
       }
 
-  leave_moves : OtherPasses s m.number → Moved l seen.at (c - 1) m (without m.number us ++ (m ∷ drop c l))
+  leave_moves : OtherPasses s m.number → Moved l (at_of seen) (c - 1) m (without m.number us ++ (m ∷ drop c l))
   unfolding shifted
   leave_moves p =
       let t = taken p in
@@ -283,17 +281,17 @@ module _ (l : List Maker) (c : ℕ) (call : Call) where
   found_of = seen_in l (record_of call) n
 
   abbrev number : ℕ
-  number = judged call (wrong st) found_of.present (leb (length l) c)
+  number = judged call (wrong st) (is_some found_of.place) (leb (length l) c)
 
   -- the number is the paper's
   number_is : number ≡ refusal_of st call
   number_is = go (wrong st) refl ∙ call-judged st call
     where
-      go : (b : Bool) → wrong st ≡ b → judged call (wrong st) found_of.present (leb (length l) c) ≡ judged call (wrong st) (present (record_of call).number (take c l)) (leb (length l) c)
-      go true e = rw e (wrong-judged call found_of.present (leb (length l) c) ∙ sym (wrong-judged call (present (record_of call).number (take c l)) (leb (length l) c)))
+      go : (b : Bool) → wrong st ≡ b → judged call (wrong st) (is_some found_of.place) (leb (length l) c) ≡ judged call (wrong st) (present (record_of call).number (take c l)) (leb (length l) c)
+      go true e = rw e (wrong-judged call (is_some found_of.place) (leb (length l) c) ∙ sym (wrong-judged call (present (record_of call).number (take c l)) (leb (length l) c)))
       go false e =
           let le = (right st e).within in
-          ap (λ (b : Bool). judged call (wrong st) b (leb (length l) c)) (ap (λ (k : ℕ). (seen_in l (record_of call) k).present) (min-eq_left le) ∙ (found l (record_of call) c le).present)
+          ap (λ (b : Bool). judged call (wrong st) b (leb (length l) c)) (ap (λ (k : ℕ). is_some (seen_in l (record_of call) k).place) (min-eq_left le) ∙ (found l (record_of call) c le).present)
 
   abbrev plan : Plan
   plan = planned call number c found_of

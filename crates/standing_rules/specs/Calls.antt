@@ -1,13 +1,16 @@
 -- Document 02, W13: "Keep the standing in a lent list of records, maker number and rating, .. with a count of those used. Makers join, change
 -- rating and leave." The three calls on such a list and count, and what each answers and leaves.
-use Rattle.std.specs.Prelude.{ℕ, ◌+◌, ◌-◌, List, [], ◌∷◌, ◌++◌, Bool, not, ◌&&◌, ◌||◌, eqb, leb, ltb, length, take, drop, if◌then◌else◌}
+use Rattle.std.specs.Prelude.{ℕ, ◌+◌, ◌-◌, List, [], ◌∷◌, ◌++◌, Bool, Result, Ok, Err, not, ◌&&◌, ◌||◌, eqb, leb, ltb, length, take, drop, if◌then◌else◌}
 use Rattle.lists.specs.Lists.{filter}
 use Rattle.rules.specs.Answers.{Outcome, outcome_by}
 use Rattle.rules.specs.Causes.{Cause, cause, first_number}
 use Rattle.rules.specs.Lowest.{FirstIsLowest}
 use Rattle.standing_rules.specs.declared.Maker.{Maker}
-use Rattle.standing_rules.specs.declared.Asked.{Asked}
-use Rattle.standing_rules.specs.declared.Answer.{Answer}
+use Rattle.standing_rules.specs.declared.CallError.{CallError}
+use Rattle.standing_rules.specs.declared.CallError.TheVariants.{WrongRecords, WrongMaker, EveryRecordUsed}
+-- the calls, without the records and the count: join and change name a maker with a rating, leave a maker
+pub use Rattle.standing_rules.specs.declared.Call.{Call}
+pub use Rattle.standing_rules.specs.declared.Call.TheVariants.{Join, Change, Leave}
 use Rattle.standing_rules.specs.Order.{maker, above, sorted, is_of, present, once}
 
 -- the records that are lent, and how many of them, from the first on, are used
@@ -21,21 +24,13 @@ standing l c = record { records = l; count = c }
 abbrev pub used : Standing → List Maker
 used s = take s.count s.records
 
--- the calls, without the records and the count: join and change name a maker with a rating, leave a maker
-pub data Call : Type 0 where
-  Join : Maker → Call
-  Change : Maker → Call
-  Leave : ℕ → Call
-
-abbrev pub asked : ℕ → ℕ → ℕ → Asked
-asked kind number rating = record { kind = kind; number = number; rating = rating }
-
--- the call that three words say: 1 a join, 2 a change, any other number a leave, of which the rating says nothing
-unfoldable pub call_of : Asked → Call
-call_of a =
-    if eqb a.kind 1 then Join (maker a.number a.rating)
-    else if eqb a.kind 2 then Change (maker a.number a.rating)
-    else Leave a.number
+-- the call that three words say, its kind, a maker's number and a rating: 1 a join, 2 a change, any other kind a leave, of which the rating
+-- says nothing
+unfoldable pub call_of : ℕ → ℕ → ℕ → Call
+call_of kind number rating =
+    if eqb kind 1 then Join (maker number rating)
+    else if eqb kind 2 then Change (maker number rating)
+    else Leave number
 
 -- ---- refused
 
@@ -86,9 +81,23 @@ changed s (Leave n) = standing (without n (used s) ++ (left n ∷ drop s.count s
 unfoldable pub step : Standing → Call → Standing
 step s call = if eqb (refusal_of s call) 0 then changed s call else s
 
--- the new count or a refusal
+-- the new count, and 0 or the refusal's number; refused, the count is the one given
+pub record Answer : Type 0 where
+  pub count : ℕ
+  pub refusal : ℕ
+
 unfoldable pub answer_of : Standing → Call → Answer
 answer_of s call = record { count = (step s call).count; refusal = refusal_of s call }
+
+abbrev pub number_of : CallError → ℕ
+number_of WrongRecords = 23
+number_of WrongMaker = 24
+number_of EveryRecordUsed = 25
+
+-- the answer that a function hands back, by the count that it was given
+abbrev pub answer_by : ℕ → Result ℕ CallError → Answer
+answer_by given (Ok count) = record { count = count; refusal = 0 }
+answer_by given (Err error) = record { count = given; refusal = number_of error }
 
 -- what an answer shows: the new count, or the refusal's number
 abbrev pub shown : Answer → Outcome ℕ

@@ -1,12 +1,13 @@
 -- How the code performs the calls: what a look through the used records finds, what is to be done, and how a record moves. A reader of the
 -- promises needs none of it.
-use Rattle.std.specs.Prelude.{ℕ, zero, suc, ◌+◌, ◌-◌, ◌%◌, List, ◌∷◌, ◌++◌, Bool, true, false, not, ◌&&◌, ◌||◌, eqb, ltb, take, drop, get_or, set, replicate, if◌then◌else◌}
+use Rattle.std.specs.Prelude.{ℕ, zero, suc, ◌+◌, ◌-◌, ◌%◌, List, ◌∷◌, ◌++◌, Bool, Option, Some, None, unwrap_or, Result, Ok, Err, true, false, not, ◌&&◌, eqb, take, drop, get_or, set, replicate, if◌then◌else◌}
 use Rattle.standing_rules.specs.declared.Maker.{Maker}
 use Rattle.standing_rules.specs.declared.Seen.{Seen}
 use Rattle.standing_rules.specs.declared.Checked.{Checked}
-use Rattle.standing_rules.specs.declared.Plan.{Plan}
+use Rattle.standing_rules.specs.declared.Move.{Move}
+use Rattle.standing_rules.specs.declared.CallError.{CallError}
 use Rattle.standing_rules.specs.Order.{maker, above, is_of, present}
-use Rattle.standing_rules.specs.Calls.{Call, Join, Change, Leave, left}
+use Rattle.standing_rules.specs.Calls.{Call, Join, Change, Leave, left, number_of}
 
 -- ---- looking
 
@@ -14,15 +15,14 @@ abbrev pub none : Maker
 none = maker 0 0
 
 abbrev pub unseen : Seen
-unseen = record { present = false; at = 0; above = 0 }
+unseen = record { place = None; above = 0 }
 
 -- the record r at the place i, where the record m is looked for
 unfoldable pub look_of : Seen → ℕ → Maker → Maker → Seen
 look_of s i r m =
     let same = is_of m.number r in
     record {
-      present = if same then true else s.present;
-      at = if same then i else s.at;
+      place = if same then Some i else s.place;
       above = if same then s.above else if above r m then s.above + 1 else s.above;
     }
 
@@ -46,18 +46,19 @@ marks_in k l (suc n) = marked (marks_in k l n) k (get_or l n none).number
 abbrev pub back_to : List Bool → ℕ → ℕ → ℕ → ℕ
 back_to marks k n number = if get_or marks (number % k) false then n else 0
 
--- the record r at the place i ranks below the last one before it
-abbrev pub is_behind : ℕ → Maker → Maker → Bool
-is_behind i last r = eqb i 0 || above last r
+-- the record r ranks below the last one before it, if there is one
+abbrev pub is_behind : Option Maker → Maker → Bool
+is_behind None r = true
+is_behind (Some last) r = above last r
 
--- the record r at the place i after those before it, which may have one of its maker
-unfoldable pub check_of : Checked → ℕ → Maker → Bool → Checked
-check_of s i r twice = record { good = s.good && (is_behind i s.last r && not twice); last = r }
+-- the record r after those before it, which may have one of its maker
+unfoldable pub check_of : Checked → Maker → Bool → Checked
+check_of s r twice = record { good = s.good && (is_behind s.last r && not twice); last = Some r }
 
 -- whether each of the first n records ranks below the one before it, no maker twice
 unfoldable pub checked_in : List Maker → ℕ → Checked
-checked_in l zero = record { good = true; last = none }
-checked_in l (suc n) = check_of (checked_in l n) n (get_or l n none) (present (get_or l n none).number (take n l))
+checked_in l zero = record { good = true; last = None }
+checked_in l (suc n) = check_of (checked_in l n) (get_or l n none) (present (get_or l n none).number (take n l))
 
 -- ---- moving
 
@@ -70,10 +71,6 @@ inserted l i m = take i l ++ (m ∷ drop i l)
 -- the record at `from` is taken out, and m is put at the place `to` of the rest: those between move by one place
 unfoldable pub shifted : {A : Type 0} → List A → ℕ → ℕ → A → List A
 shifted l from to m = inserted (removed l from) to m
-
--- one place nearer
-abbrev pub nearer : ℕ → ℕ → ℕ
-nearer i to = if ltb i to then i + 1 else i - 1
 
 -- ---- deciding
 
@@ -89,11 +86,23 @@ judged (Join m) bad there full = if bad then 23 else if there then 24 else if fu
 judged (Change m) bad there full = if bad then 23 else if there then 0 else 24
 judged (Leave n) bad there full = if bad then 23 else if there then 0 else 24
 
+-- the record leaves the place `from`, and stands at `to`; the new count; the number that refuses, 0 where none does
+pub record Plan : Type 0 where
+  pub from : ℕ
+  pub to : ℕ
+  pub count : ℕ
+  pub refusal : ℕ
+
+-- the plan that a decision is, by the count that it was given
+abbrev pub plan_by : ℕ → Result Move CallError → Plan
+plan_by given (Ok m) = record { from = m.from; to = m.to; count = m.count; refusal = 0 }
+plan_by given (Err error) = record { from = 0; to = 0; count = given; refusal = number_of error }
+
 -- where the record is taken from and where it goes, and the new count
 unfoldable pub accepted : Call → ℕ → Seen → Plan
 accepted (Join m) count s = record { from = count; to = s.above; count = count + 1; refusal = 0 }
-accepted (Change m) count s = record { from = s.at; to = s.above; count = count; refusal = 0 }
-accepted (Leave n) count s = record { from = s.at; to = count - 1; count = count - 1; refusal = 0 }
+accepted (Change m) count s = record { from = unwrap_or s.place 0; to = s.above; count = count; refusal = 0 }
+accepted (Leave n) count s = record { from = unwrap_or s.place 0; to = count - 1; count = count - 1; refusal = 0 }
 
 -- refused, nothing moves
 unfoldable pub planned : Call → ℕ → ℕ → Seen → Plan

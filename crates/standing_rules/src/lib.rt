@@ -2,10 +2,10 @@
 // look through the used ones, what a call is answered and where its record moves. The calls themselves are in `standing`.
 #![tactic(auto)]
 
-ghost use Rattle.std.specs.Prelude.{◌≡◌, true, not, ◌&&◌, ◌||◌, ◌+◌, ◌≤◌, ◌<◌, ◌^◌, min, leb, ltb, if◌then◌else◌};
+ghost use Rattle.std.specs.Prelude.{◌≡◌, IfSome, is_some, not, ◌&&◌, ◌||◌, ◌+◌, ◌≤◌, ◌<◌, ◌^◌, leb, ltb, if◌then◌else◌};
 ghost use Rattle.standing_rules.specs.Order.{above};
-ghost use Rattle.standing_rules.specs.Calls.{call_of};
-ghost use Rattle.standing_rules.specs.Internal.{look_of, back_to, marked, is_behind, check_of, nearer, record_of, judged, accepted, planned};
+ghost use Rattle.standing_rules.specs.Calls.{number_of};
+ghost use Rattle.standing_rules.specs.Internal.{look_of, back_to, marked, is_behind, check_of, record_of, judged, planned, plan_by};
 
 #[repr(C)]
 #[derive(Clone, Copy)]
@@ -14,44 +14,72 @@ pub struct Maker {
     pub rating: u32,
 }
 
-// A call as three words: the kind, 1 join, 2 change, any other leave; the maker's number; the rating, which a leave does not use.
+// A call: a maker joins or changes with a rating, or leaves.
 #[derive(Clone, Copy)]
-pub struct Asked {
-    pub kind: u32,
-    pub number: u32,
-    pub rating: u32,
+pub enum Call {
+    Join(Maker),
+    Change(Maker),
+    Leave(u32),
 }
 
-// What a call answers: the count after it, and 0 or the refusal's number. Refused, the count is the one given.
-#[derive(Clone, Copy)]
-pub struct Answer {
-    pub count: usize,
-    pub refusal: u32,
+impl Call {
+    ghost use Rattle.standing_rules.specs.Calls.{call_of};
+
+    // The call that three words say: the kind, 1 join, 2 change, any other leave; the maker's number; the rating, which a leave does not use.
+    #[tactic(auto, unfolding(crate::specs::Calls::call_of))]
+    pub fn from_words(kind: u32, number: u32, rating: u32) -> Call
+        ensures { result ≡ call_of kind number rating }
+    {
+        match kind {
+            1 => Call::Join(Maker { number, rating }),
+            2 => Call::Change(Maker { number, rating }),
+            _ => Call::Leave(number),
+        }
+    }
 }
 
-// What is found of a record among used ones: whether the maker is present, and at which place; how many records of other makers stand
-// above it.
+// Why a call is refused: a count above the records lent, used ones out of order or a maker twice; a join of a present maker, a change or leave
+// of an absent one; a join with every record used.
+#[derive(Clone, Copy, Debug, PartialEq, Eq)]
+pub enum CallError {
+    WrongRecords,
+    WrongMaker,
+    EveryRecordUsed,
+}
+
+// The refusal's number in document 02.
+impl From<CallError> for u32 {
+    ghost from_gives = { λ error n. n ≡ number_of error };
+
+    fn from(error: CallError) -> u32 {
+        match error {
+            CallError::WrongRecords => 23,
+            CallError::WrongMaker => 24,
+            CallError::EveryRecordUsed => 25,
+        }
+    }
+}
+
+// What is found of a record among used ones: the place of its maker's, if there is one; how many records of other makers stand above it.
 #[derive(Clone, Copy)]
 pub struct Seen {
-    pub present: bool,
-    pub at: usize,
+    pub place: Option<usize>,
     pub above: usize,
 }
 
-// What is found of the order of used records: whether each stands behind the one before it, no maker twice; the last of them.
+// What is found of the order of used records: whether each stands behind the one before it, no maker twice; the last of them, if there is one.
 #[derive(Clone, Copy)]
 pub struct Checked {
     pub good: bool,
-    pub last: Maker,
+    pub last: Option<Maker>,
 }
 
-// What a call does: the record leaves the place `from`, and stands at `to`; the new count. Refused, nothing moves.
+// What an accepted call does: the record leaves the place `from`, and stands at `to`; the new count.
 #[derive(Clone, Copy)]
-pub struct Plan {
+pub struct Move {
     pub from: usize,
     pub to: usize,
     pub count: usize,
-    pub refusal: u32,
 }
 
 // The greater rating stands above, with equal ratings the lower number.
@@ -71,15 +99,13 @@ pub fn look_at(s: Seen, i: usize, r: Maker, m: Maker) -> Seen
 {
     if r.number == m.number {
         return Seen {
-            present: true,
-            at: i,
+            place: Some(i),
             above: s.above,
         };
     }
     if is_above(r, m) {
         return Seen {
-            present: s.present,
-            at: s.at,
+            place: s.place,
             above: s.above + 1,
         };
     }
@@ -100,169 +126,77 @@ pub fn look_back(marks: &mut [bool; 65536], j: usize, number: u32) -> usize
     0
 }
 
-// Order is seen from neighbours: the record r, the one at the place i, stands behind the last before it. `twice`: its maker has a record
-// before.
-pub fn check(s: Checked, i: usize, r: Maker, twice: bool) -> Checked
-    ensures { result ≡ check_of s i r twice }
+// Order is seen from neighbours: the record r stands behind the last before it. `twice`: its maker has a record before.
+#[tactic(auto, unfolding(crate::specs::Internal::check_of))]
+pub fn check(s: Checked, r: Maker, twice: bool) -> Checked
+    ensures { result ≡ check_of s r twice }
 {
-    let last = s.last;
-    let behind = is_behind(i, last, r);
+    let behind = is_behind(s.last, r);
     Checked {
-        good: both(s.good, both(behind, !twice)),
-        last: r,
+        good: s.good && (behind && !twice),
+        last: Some(r),
     }
 }
 
-fn is_behind(i: usize, last: Maker, r: Maker) -> bool
-    ensures { result ≡ is_behind i last r }
+fn is_behind(last: Option<Maker>, r: Maker) -> bool
+    ensures { result ≡ is_behind last r }
 {
-    if i == 0 {
-        return true;
+    match last {
+        Some(before) => is_above(before, r),
+        None => true,
     }
-    is_above(last, r)
-}
-
-fn both(a: bool, b: bool) -> bool
-    ensures { result ≡ a && b }
-{
-    if a {
-        return b;
-    }
-    false
 }
 
 // The record that a call puts in its place: a leave's, past the count, has no rating.
-pub fn record_of(asked: Asked) -> Maker
-    ensures { result ≡ record_of (call_of asked) }
+#[tactic(auto, unfolding(crate::specs::Internal::record_of))]
+pub fn record_of(call: Call) -> Maker
+    ensures { result ≡ record_of call }
 {
-    if asked.kind == 1 {
-        return Maker {
-            number: asked.number,
-            rating: asked.rating,
-        };
+    match call {
+        Call::Join(m) | Call::Change(m) => m,
+        Call::Leave(number) => Maker { number, rating: 0 },
     }
-    if asked.kind == 2 {
-        return Maker {
-            number: asked.number,
-            rating: asked.rating,
-        };
-    }
-    Maker {
-        number: asked.number,
-        rating: 0,
-    }
-}
-
-// The next place on the way.
-pub fn toward(i: usize, to: usize) -> usize
-    requires { i ≡ to → ⊥ }
-    ensures { result ≡ nearer i to }
-{
-    if i < to {
-        return i + 1;
-    }
-    i - 1
-}
-
-// The records that are looked at: the used ones, where there are so many.
-pub fn lesser(a: usize, b: usize) -> usize
-    ensures { result ≡ min a b }
-{
-    if a < b {
-        return a;
-    }
-    b
 }
 
 // Whether 23 refuses: by the count, and by whether the used records are in order, no maker twice.
 pub fn is_wrong(size: usize, count: usize, good: bool) -> bool
     ensures { result ≡ (ltb size count || not good) }
 {
-    if size < count {
-        return true;
-    }
-    !good
+    size < count || !good
 }
 
-fn is_full(size: usize, count: usize) -> bool
-    ensures { result ≡ leb size count }
-{
-    if size < count {
-        return true;
-    }
-    size - count < 1
-}
-
-// The lowest number that refuses, 0 where none does: `bad` is 23's cause, `there` that the maker is present, `full` 25's.
-fn judge(asked: Asked, bad: bool, there: bool, full: bool) -> u32
-    ensures { result ≡ judged (call_of asked) bad there full }
+// What a call does, with `size` records lent, by whether its records are wrong and by what is found of its maker among the used ones.
+#[tactic(auto, unfolding(crate::specs::Internal::judged, crate::specs::Internal::planned, crate::specs::Internal::accepted))]
+pub fn decide(call: Call, size: usize, count: usize, bad: bool, s: Seen) -> Result<Move, CallError>
+    requires { IfSome s.place (λ at. 0 < count) }
+    ensures { plan_by count result ≡ planned call (judged call bad (is_some s.place) (leb size count)) count s }
 {
     if bad {
-        return 23;
+        return Err(CallError::WrongRecords);
     }
-    if asked.kind != 1 {
-        return judge_present(there);
-    }
-    if there {
-        return 24;
-    }
-    if full {
-        return 25;
-    }
-    0
-}
-
-fn judge_present(there: bool) -> u32
-    ensures { result ≡ (if there then 0 else 24) }
-{
-    if there {
-        return 0;
-    }
-    24
-}
-
-// Where the record moves, and the new count.
-fn moves(asked: Asked, count: usize, s: Seen) -> Plan
-    requires { ((asked.kind ≡ 1) → (count + 1 < 2 ^ 64)) × ((asked.kind ≡ 1 → ⊥) → (0 < count)) }
-    ensures { result ≡ accepted (call_of asked) count s }
-{
-    if asked.kind == 1 {
-        return Plan {
-            from: count,
-            to: s.above, // behind those above it
-            count: count + 1,
-            refusal: 0,
-        };
-    }
-    if asked.kind == 2 {
-        return Plan {
-            from: s.at,
+    match call {
+        Call::Join(_) => {
+            if s.place.is_some() {
+                return Err(CallError::WrongMaker);
+            }
+            if size <= count {
+                return Err(CallError::EveryRecordUsed);
+            }
+            Ok(Move {
+                from: count,
+                to: s.above, // behind those above it
+                count: count + 1,
+            })
+        }
+        Call::Change(_) => Ok(Move {
+            from: s.place.ok_or(CallError::WrongMaker)?,
             to: s.above, // among the other makers
             count,
-            refusal: 0,
-        };
+        }),
+        Call::Leave(_) => Ok(Move {
+            from: s.place.ok_or(CallError::WrongMaker)?,
+            to: count - 1,
+            count: count - 1,
+        }),
     }
-    Plan {
-        from: s.at,
-        to: count - 1,
-        count: count - 1,
-        refusal: 0,
-    }
-}
-
-// What a call does, with `size` records lent, by whether 23 refuses it and by what is found of its maker among the used records.
-pub fn decide(asked: Asked, size: usize, count: usize, bad: bool, s: Seen) -> Plan
-    requires { (s.present ≡ true) → (0 < count) }
-    ensures { result ≡ planned (call_of asked) (judged (call_of asked) bad s.present (leb size count)) count s }
-{
-    let refusal = judge(asked, bad, s.present, is_full(size, count));
-    if refusal != 0 {
-        return Plan {
-            from: 0,
-            to: 0,
-            count,
-            refusal,
-        };
-    }
-    moves(asked, count, s)
 }

@@ -16,12 +16,7 @@ use rules::{SpreadRule, Strike};
 fn is_good(s: Strike) -> bool
     ensures { result ≡ good_strike s }
 {
-    let product = numbers::both(
-        ranges::at_most(s.a, 200),
-        ranges::at_most(s.difference, 100000),
-    );
-    let root = numbers::both(product, ranges::at_most(s.days, 365));
-    numbers::both(root, ranges::at_most(s.b, 1000000))
+    (s.a <= 200) & (s.difference <= 100000) & (s.days <= 365) & (s.b <= 1000000)
 }
 
 // The same, where open is given a strike.
@@ -60,7 +55,7 @@ fn half_below(d: u32, square: u64) -> bool
     twice * twice * 36500 <= square
 }
 
-// The nearest step, half upwards, between two numbers that close in on it.
+// The nearest step, half upwards, between two numbers that close in on it: a halving, so no index is counted.
 fn nearest(square: u64) -> u32
     requires { square ≤ 584000000000000000 }
     ensures { ((2 * result - 1) ^ 2 * 36500 ≤ square) × (square < (2 * result + 1) ^ 2 * 36500) × (result ≤ 2000000) }
@@ -83,5 +78,5 @@ pub fn widest(s: Strike) -> u32
     requires { good_strike s ≡ true }
     ensures { result ≡ widest_of_strike s }
 {
-    numbers::max(nearest(square(s)), s.b)
+    nearest(square(s)).max(s.b)
 }

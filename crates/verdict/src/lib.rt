@@ -47,10 +47,7 @@ pub fn met(cell: Cell) -> bool
 {
     let kept = cell.kept;
     let length = cell.length;
-    if reaches(kept, length, cell.share) {
-        return within_lapse_limit(cell.allowed, cell.lapses);
-    }
-    false
+    reaches(kept, length, cell.share) && within_lapse_limit(cell.allowed, cell.lapses)
 }
 
 // The kept share f, in thousandths.
@@ -66,9 +63,7 @@ fn fifth(x: u64) -> u64
     requires { x ≤ 800 }
     ensures { result ≡ x ^ 5 }
 {
-    let square = x * x;
-    let fourth = square * square;
-    fourth * x
+    x.pow(5)
 }
 
 // The weight of a quantum that is met, by its f.

@@ -4,15 +4,15 @@ use Prim.Native.Nat.{ℕ}
 use native.Mathlib.Omega.{arith}
 use mathlib.Core.Path.{◌≡◌, refl, sym, ap}
 use mathlib.Core.List.{List}
-use mathlib.Core.Bool.{Bool, true, false, true≢false, ◌||◌}
+use mathlib.Core.Bool.{Bool, true, false, ◌||◌}
 use lib.IntN.{ℤ}
 use lib.ListN.{length}
 use Rattle.lists.specs.Lists.{any}
 use Rattle.rules.specs.Answers.{Outcome, accepted, refused}
 use Rattle.sigma.specs.Changes.{changes, bad_prices}
 use Rattle.sigma.specs.Sigmas.{sigmas}
-use Rattle.volatile.specs.declared.DayAnswer.{DayAnswer}
-use Rattle.volatile.specs.declared.DayAnswer.TheVariants.{Inside, Outside, Refused}
+use Rattle.std.specs.Prelude.{Result, Ok, Err}
+use Rattle.volatile.specs.declared.UnusablePrices.{UnusablePrices}
 use Rattle.volatile.specs.Periods.{is_in, is_early, periods}
 use Rattle.volatile.specs.Answers.{inside_of, shown_day}
 
@@ -42,16 +42,11 @@ module _ (prices : List ℤ) (threshold : ℕ) where
 clash : {A : Type 0} (b : Bool) → accepted b ≡ refused 22 → A
 clash b e = let z : ◌≡◌ {A = ℕ} 0 1 = cc in absurd (omega arith)
 
-swapped : {A : Type 0} → ◌≡◌ {A = Outcome Bool} (accepted true) (accepted false) → A
-swapped e = let same : true ≡ false = cc in absurd (true≢false same)
+same-answer : (a b : Bool) → ◌≡◌ {A = Outcome Bool} (accepted a) (accepted b) → a ≡ b
+same-answer a b e = cc
 
-pub day_shows : (a b : DayAnswer) → shown_day a ≡ shown_day b → a ≡ b
-day_shows Inside Inside e = refl
-day_shows Inside Outside e = swapped e
-day_shows Inside Refused e = clash true e
-day_shows Outside Inside e = swapped (sym e)
-day_shows Outside Outside e = refl
-day_shows Outside Refused e = clash false e
-day_shows Refused Inside e = clash true (sym e)
-day_shows Refused Outside e = clash false (sym e)
-day_shows Refused Refused e = refl
+pub day_shows : (a b : Result Bool UnusablePrices) → shown_day a ≡ shown_day b → a ≡ b
+day_shows (Ok a) (Ok b) e = ap Ok (same-answer a b e)
+day_shows (Ok a) (Err s) e = clash a e
+day_shows (Err r) (Ok b) e = clash b (sym e)
+day_shows (Err r) (Err s) e = refl

@@ -11,7 +11,7 @@ use lib.Dec.{leb, ltb}
 use lib.ListN.{length}
 use Rattle.lists.specs.Lists.{any, All}
 use Rattle.lists.proofs.Members.{any_append, or_false}
-use Rattle.sigma.proofs.Differences.{lt_or_ge}
+use Rattle.std.proofs.lemmas.Bool.{cases_lt}
 use Rattle.volatile.specs.Periods.{Period, first_from, is_in, is_early, sigma_on, average, last_day, period_from, periods}
 
 -- ---- the first day that passes
@@ -73,7 +73,7 @@ module _ (sigmas : List ℕ) (first : ℕ) where
   last_after : (d : ℕ) → d < length sigmas → first ≤ d → d ≤ last_day sigmas first
       → (first < d → ends_on d ≡ false) → suc d ≤ last_day sigmas first
   unfolding last_day
-  last_after d u b l e = go (from_stop ends_on (suc first) (length sigmas - suc first)) (lt_or_ge d (last_day sigmas first))
+  last_after d u b l e = go (from_stop ends_on (suc first) (length sigmas - suc first)) (cases_lt d (last_day sigmas first))
     where
       go : (ends_on (last_day sigmas first) ≡ true) ⊎ (last_day sigmas first ≡ suc first + (length sigmas - suc first))
           → (d < last_day sigmas first) ⊎ (last_day sigmas first ≤ d) → suc d ≤ last_day sigmas first

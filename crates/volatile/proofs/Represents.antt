@@ -5,17 +5,17 @@ use mathlib.Core.Path.{◌≡◌, refl, sym, ap, ◌∙◌, subst}
 use mathlib.Core.Logic.{◌⊎◌, inl, inr}
 use mathlib.Core.List.{List}
 use mathlib.Core.Bool.{Bool, true, false, ◌||◌}
-use lib.IntN.{ℤ, pos}
+use lib.IntN.{ℤ, pos, nat_abs}
 use lib.ListN.{length, get_or, take}
 use lib.Seq.{take-suc, take_all}
 use Rattle.lists.specs.Lists.{any}
 use Rattle.lists.proofs.Members.{or_second, some_any, get_d_in}
 use Rattle.sigma.specs.Changes.{change_of, changes, previous, is_zero, is_beyond, bad_prices}
 use Rattle.sigma.specs.Sigmas.{sigmas}
-use Rattle.sigma.specs.Internal.{lowered}
 use Rattle.sigma.proofs.Changes.{Told}
-use Rattle.sigma.proofs.Differences.{lt_or_ge}
+use Rattle.std.proofs.lemmas.Bool.{cases_lt}
 use Rattle.sigma.proofs.Lists.{length_changes, length_previous, length_sigmas, changes-at, previous-at, sigmas-at}
+use Rattle.std.specs.Prelude.{is_some}
 use Rattle.volatile.specs.declared.State.{State}
 use Rattle.volatile.specs.Periods.{is_in, is_early, periods}
 use Rattle.volatile.specs.Internal.{pushed, phase_after, state, sigma_with, judged, state_after, fresh, Ready, early}
@@ -46,10 +46,10 @@ module _ (prices : List ℤ) (threshold : ℕ) where
 
   -- after i of the R
   pub record Represents (i : ℕ) (s : State) : Type 0 where
-    pub older_is : 2 ≤ i → lowered s.older ≡ get_or rs (i - 2) (pos 0)
-    pub newer_is : 1 ≤ i → lowered s.newer ≡ get_or rs (i - 1) (pos 0)
-    pub older_small : s.older ≤ 2000000
-    pub newer_small : s.newer ≤ 2000000
+    pub older_is : 2 ≤ i → s.older ≡ get_or rs (i - 2) (pos 0)
+    pub newer_is : 1 ≤ i → s.newer ≡ get_or rs (i - 1) (pos 0)
+    pub older_small : nat_abs s.older ≤ 1000000
+    pub newer_small : nat_abs s.newer ≤ 1000000
     pub holds : Holds list s.window
     pub day_is : s.window.day ≡ i - 2
     pub phased : Phased list threshold (i - 2) s.phase
@@ -82,8 +82,8 @@ module _ (prices : List ℤ) (threshold : ℕ) where
           room = roomy list s.window represents.holds (omega arith) (omega arith);
         }
 
-    module _ (r : ℕ) (told : Told (get_or prices i (pos 0)) (get_or prices (suc i) (pos 0)) r) (not-early : early s.phase ≡ false) where
-      change_is : lowered r ≡ get_or rs i (pos 0)
+    module _ (r : ℤ) (told : Told (get_or prices i (pos 0)) (get_or prices (suc i) (pos 0)) r) (not-early : early s.phase ≡ false) where
+      change_is : r ≡ get_or rs i (pos 0)
       change_is = told.is ∙ sym (changes-at prices i more)
 
       no_zero_next : any is_zero (take (suc i) (previous prices)) ≡ false
@@ -154,14 +154,14 @@ module _ (prices : List ℤ) (threshold : ℕ) where
                   (sym next)
                   (subst (λ (k : ℕ). Phased list threshold (suc (i - 2)) (phase_after s.phase k sigma threshold (pushed s.window sigma).sum))
                   (sym d)
-                  (phase-after list threshold (i - 2) s.phase represents.phased not-early has sigma (pushed s.window sigma).sum sigma-at
-                  (λ t. average_is list (pushed s.window sigma) held (suc (i - 2)) (sym next_day) t)));
+                  (phase-after list threshold (i - 2) has sigma (pushed s.window sigma).sum sigma-at
+                  (λ t. average_is list (pushed s.window sigma) held (suc (i - 2)) (sym next_day) t) s.phase represents.phased not-early));
               no_zero = no_zero_next;
               no_beyond = no_beyond_next;
             }
 
       pub turn_represents : (2 ≤ i → sigma_with s r < 4194304) → Represents (suc i) (state_after s i r threshold)
-      turn_represents small = go (lt_or_ge i 2)
+      turn_represents small = go (cases_lt i 2)
         where
           go : (i < 2) ⊎ (2 ≤ i) → Represents (suc i) (state_after s i r threshold)
           go (inl h) = subst (Represents (suc i)) (first_two s i r threshold h) (without h)
@@ -216,5 +216,5 @@ module _ (prices : List ℤ) (threshold : ℕ) where
     pub end-early : early s.phase ≡ false → any is_early (periods list threshold (length list)) ≡ false
     end-early e = ap (λ (d : ℕ). any is_early (periods list threshold d)) (sym at-end) ∙ represents.phased.early_is ∙ e
 
-    pub end-inside : s.phase.inside ≡ any (is_in (length list)) (periods list threshold (length list))
+    pub end-inside : is_some s.phase ≡ any (is_in (length list)) (periods list threshold (length list))
     end-inside = represents.phased.is ∙ ap (λ (d : ℕ). any (is_in d) (periods list threshold d)) at-end

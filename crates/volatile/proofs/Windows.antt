@@ -8,7 +8,7 @@ use mathlib.Core.List.{List, [], ◌∷◌, ◌++◌}
 use lib.ListN.{length, get_or, take, drop, set, replicate, length-append, length-set, length-drop, get_or-replicate, get_or-append}
 use lib.Seq.{take-suc, drop-cons, get_or-drop, get_or-append-add, drop-append-add, get_or-set_same, get_or-set_other}
 use Rattle.lists.specs.Lists.{sum}
-use Rattle.sigma.proofs.Differences.{lt_or_ge}
+use Rattle.std.proofs.lemmas.Bool.{cases_lt}
 use Rattle.volatile.specs.declared.Window.{Window}
 use Rattle.volatile.specs.Periods.{average}
 use Rattle.volatile.specs.Internal.{oldest, pushed, Roomy}
@@ -56,7 +56,7 @@ module _ (s : List ℕ) where
   padded-at j = get_or-append-add (replicate 30 0) s j 0
 
   padded_small : (d most : ℕ) → 0 < most → ((j : ℕ) → j < d → get_or s j 0 < most) → (j : ℕ) → j < d + 30 → get_or padded j 0 < most
-  padded_small d most z h j k = go (lt_or_ge j 30)
+  padded_small d most z h j k = go (cases_lt j 30)
     where
       go : (j < 30) ⊎ (30 ≤ j) → get_or padded j 0 < most
       go (inl l) =
@@ -97,7 +97,7 @@ module _ (s : List ℕ) where
       at = w.day % 30
 
       entered : (j : ℕ) → w.day + 1 ≤ j → j < w.day + 1 + 30 → get_or (set w.recent at sigma) (j % 30) 0 ≡ get_or padded j 0
-      entered j l u = go (lt_or_ge j (w.day + 30))
+      entered j l u = go (cases_lt j (w.day + 30))
         where
           go : (j < w.day + 30) ⊎ (w.day + 30 ≤ j) → get_or (set w.recent at sigma) (j % 30) 0 ≡ get_or padded j 0
           go (inl k) =
@@ -123,7 +123,7 @@ module _ (s : List ℕ) where
           goal ∙ sym (ap (λ (k : List ℕ). sum (take 30 k)) one)
 
       smaller : (j : ℕ) → j < w.day + 1 → get_or s j 0 < 4194304
-      smaller j k = go (lt_or_ge j w.day)
+      smaller j k = go (cases_lt j w.day)
         where
           go : (j < w.day) ⊎ (w.day ≤ j) → get_or s j 0 < 4194304
           go (inl l) = holds.small j l

@@ -1,11 +1,10 @@
 -- Document 02, W12: what is answered, and what each case of the answer shows.
-use Rattle.std.specs.Prelude.{ℕ, List, Bool, true, false, ◌||◌, ℤ, length, if◌then◌else◌}
+use Rattle.std.specs.Prelude.{ℕ, List, Bool, ◌||◌, ℤ, length, Result, Ok, Err, if◌then◌else◌}
 use Rattle.lists.specs.Lists.{any}
 use Rattle.rules.specs.Answers.{Outcome, accepted, refused}
 use Rattle.sigma.specs.Changes.{changes, bad_prices}
 use Rattle.sigma.specs.Sigmas.{sigmas}
-use Rattle.volatile.specs.declared.DayAnswer.{DayAnswer}
-use Rattle.volatile.specs.declared.DayAnswer.TheVariants.{Inside, Outside, Refused}
+use Rattle.volatile.specs.declared.UnusablePrices.{UnusablePrices}
 use Rattle.volatile.specs.Periods.{is_in, is_early, periods}
 
 -- "From the prices before a day, oldest first, the answer is whether that day is inside"; "Errors: 22, a previous price of zero, any R
@@ -16,7 +15,6 @@ inside_of prices threshold =
     let found = periods s threshold (length s) in
     if bad_prices prices || any is_early found then refused 22 else accepted (any (is_in (length s)) found)
 
-abbrev pub shown_day : DayAnswer → Outcome Bool
-shown_day Inside = accepted true
-shown_day Outside = accepted false
-shown_day Refused = refused 22
+abbrev pub shown_day : Result Bool UnusablePrices → Outcome Bool
+shown_day (Ok inside) = accepted inside
+shown_day (Err unusable) = refused 22

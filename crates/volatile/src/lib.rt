@@ -4,19 +4,22 @@
 // thirty before it.
 #![tactic(auto)]
 
-ghost use Rattle.std.specs.Prelude.{◌≡◌, ◌≤◌, ◌<◌, ltb};
+ghost use Rattle.std.specs.Prelude.{◌≡◌, ◌≤◌, ◌<◌, nat_abs};
 ghost use Rattle.volatile.specs.Answers.{inside_of, shown_day};
-ghost use Rattle.volatile.specs.Internal.{Roomy, pushed, phase_after, sigma_with, judged, state_after, fresh, Ready, early};
+ghost use Rattle.volatile.specs.Internal.{Roomy, pushed, begun, phase_after, sigma_with, judged, state_after, fresh, Ready, early};
 
-use numbers::both;
-use ranges::at_most;
-use sigma::Change;
+// Prices that give no answer: a previous price of zero, a change that is too great, or a period that begins with fewer than thirty sigmas
+// before it.
+#[derive(Clone, Copy, Debug, PartialEq, Eq)]
+pub struct UnusablePrices;
 
-#[derive(Clone, Copy)]
-pub enum DayAnswer {
-    Inside,
-    Outside,
-    Refused,
+impl UnusablePrices {
+    // The refusal's number in document 02.
+    pub fn number(self) -> u32
+        ensures { result ≡ 22 }
+    {
+        22
+    }
 }
 
 // The last thirty sigmas in a ring, the number of sigmas so far, and the sum of the thirty.
@@ -27,21 +30,20 @@ struct Window {
     sum: u32,
 }
 
-// Whether the day is in a period; if so, the period's first day and its average.
+// The period that a day is in: its first day and its average.
 #[derive(Clone, Copy)]
-struct Phase {
-    inside: bool,
+struct Disturbed {
     first: usize,
     average: u32,
 }
 
-// The last two R, raised, with the days so far.
+// The last two R with the days so far, and the next day's period.
 #[derive(Clone, Copy)]
 struct State {
-    older: u32,
-    newer: u32,
+    older: i32,
+    newer: i32,
     window: Window,
-    phase: Phase,
+    phase: Option<Disturbed>,
 }
 
 // A sigma more, in the place of the oldest.
@@ -50,85 +52,78 @@ fn push(w: Window, sigma: u32) -> Window
     ensures { result ≡ pushed w sigma }
 {
     let mut recent = w.recent;
-    let day = w.day;
-    let at = day % 30;
+    let at = w.day % 30;
     let sum = w.sum + sigma - recent[at];
     recent[at] = sigma;
     Window {
         recent,
-        day: day + 1,
+        day: w.day + 1,
         sum,
     }
 }
 
-fn is_before(a: usize, b: usize) -> bool
-    ensures { result ≡ ltb a b }
+// The period that begins after a day with this sigma, if one does. The sum is that of the thirty sigmas up to it.
+fn begun(day: usize, sigma: u32, threshold: u32, sum: u32) -> Option<Disturbed>
+    requires { day < 9223372036854775807 }
+    ensures { result ≡ begun day sigma threshold sum }
 {
-    a < b
+    if sigma < threshold {
+        return None;
+    }
+    Some(Disturbed {
+        first: day + 1,
+        average: sum / 30,
+    })
 }
 
-// The phase of the next day, by the sigma of this one. The sum is that of the thirty sigmas before the next day.
-fn after(p: Phase, day: usize, sigma: u32, threshold: u32, sum: u32) -> Phase
+// The period of the next day, by the sigma of this one.
+fn after(
+    phase: Option<Disturbed>,
+    day: usize,
+    sigma: u32,
+    threshold: u32,
+    sum: u32,
+) -> Option<Disturbed>
     requires { day < 9223372036854775807 }
-    ensures { result ≡ phase_after p day sigma threshold sum }
+    ensures { result ≡ phase_after phase day sigma threshold sum }
 {
-    let next = day + 1;
-    let first = p.first;
-    let average = p.average;
-    if p.inside {
-        if both(is_before(first, day), at_most(sigma, average)) {
-            return Phase {
-                inside: false,
-                first,
-                average,
-            };
-        }
-        return p;
+    let Some(period) = phase else {
+        return begun(day, sigma, threshold, sum);
+    };
+    if period.first < day && sigma <= period.average {
+        return None; // no sigma of a period's days begins another
     }
-    if at_most(threshold, sigma) {
-        return Phase {
-            inside: true,
-            first: next,
-            average: sum / 30,
-        };
-    }
-    p
+    phase
 }
 
 // A day with a sigma.
-fn judge(s: State, r: u32, threshold: u32) -> State
-    requires { Ready s × (r ≤ 2000000) }
+fn judge(s: State, r: i32, threshold: u32) -> State
+    requires { Ready s × (nat_abs r ≤ 1000000) }
     ensures { (result ≡ judged s r threshold) × (sigma_with s r < 4194304) }
 {
-    let newer = s.newer;
-    let window = s.window;
-    let phase = s.phase;
-    let day = window.day;
-    let sigma = sigma::sigma(s.older, newer, r);
-    let next = push(window, sigma);
-    let then = after(phase, day, sigma, threshold, next.sum);
+    let day = s.window.day;
+    let sigma = sigma::sigma(s.older, s.newer, r);
+    let window = push(s.window, sigma);
+    let phase = after(s.phase, day, sigma, threshold, window.sum);
     State {
-        older: newer,
+        older: s.newer,
         newer: r,
-        window: next,
-        phase: then,
+        window,
+        phase,
     }
 }
 
 // A day with an R, the i-th from 0: it has a sigma from the third on.
-fn turn(s: State, i: usize, r: u32, threshold: u32) -> State
-    requires { Ready s × (r ≤ 2000000) }
+fn turn(s: State, i: usize, r: i32, threshold: u32) -> State
+    requires { Ready s × (nat_abs r ≤ 1000000) }
     ensures { (result ≡ state_after s i r threshold) × (2 ≤ i → sigma_with s r < 4194304) }
 {
     if i < 2 {
-        let newer = s.newer;
-        let window = s.window;
-        let phase = s.phase;
         return State {
-            older: newer,
+            older: s.newer,
             newer: r,
-            window,
-            phase,
+            window: s.window,
+            phase: s.phase,
         };
     }
     judge(s, r, threshold)
@@ -139,51 +134,40 @@ fn start() -> State
     ensures { result ≡ fresh }
 {
     State {
-        older: 1000000,
-        newer: 1000000,
+        older: 0,
+        newer: 0,
         window: Window {
             recent: [0; 30],
             day: 0,
             sum: 0,
         },
-        phase: Phase {
-            inside: false,
-            first: 0,
-            average: 0,
-        },
+        phase: None,
     }
 }
 
 // A period that began with fewer than thirty sigmas before it.
-fn is_early(s: State) -> bool
-    ensures { result ≡ early s.phase }
+fn is_early(phase: Option<Disturbed>) -> bool
+    ensures { result ≡ early phase }
 {
-    let phase = s.phase;
-    both(phase.inside, is_before(phase.first, 30))
+    match phase {
+        None => false,
+        Some(period) => period.first < 30,
+    }
 }
 
 // Whether the day after the last price is inside a period.
-pub fn inside(prices: &[i32], threshold: u32) -> DayAnswer
+pub fn inside(prices: &[i32], threshold: u32) -> Result<bool, UnusablePrices>
     ensures { shown_day result ≡ inside_of prices.now threshold }
 {
     let mut state = start();
-    let mut i = 0;
-    while i + 1 < prices.len() {
-        let previous = sigma::price_word(prices, i);
-        let price = sigma::price_word(prices, i + 1);
-        let change = sigma::change_of(previous, price);
-        let Change::By(r) = change else {
-            return DayAnswer::Refused;
+    for i in 1..prices.len() {
+        let Some(r) = sigma::change_of(prices[i - 1], prices[i]) else {
+            return Err(UnusablePrices);
         };
-        state = turn(state, i, r, threshold);
-        if is_early(state) {
-            return DayAnswer::Refused;
+        state = turn(state, i - 1, r, threshold);
+        if is_early(state.phase) {
+            return Err(UnusablePrices);
         }
-        i += 1;
     }
-    let phase = state.phase;
-    if phase.inside {
-        return DayAnswer::Inside;
-    }
-    DayAnswer::Outside
+    Ok(state.phase.is_some())
 }

@@ -4,7 +4,7 @@ use native.Mathlib.Nat.{one-mul}
 use native.Mathlib.Omega.{arith}
 use mathlib.Core.Path.{◌≡◌, refl, sym, ap, ◌∙◌}
 use mathlib.Core.Bool.{Bool, true, false, or-false}
-use borrow.Author.Tests.{leb-true, leb-false, le-leb, eqb-true, ne_eqb}
+use borrow.Author.Tests.{leb-true, leb-false, le-leb, eqb-true, eqb-false, ne_eqb}
 use lib.Dec.{eqb, leb}
 use Rattle.lists.specs.Lists.{any}
 use Rattle.rules.specs.Terms.{paper}
@@ -28,6 +28,15 @@ module _ (share : ℕ) where
 
   pub is_750 : on_card share ≡ true → (share ≡ 600 → ⊥) → (share ≡ 700 → ⊥) → share ≡ 750
   is_750 e h k = eqb-true share 750 (has_others h k ∙ e)
+
+-- a share of the card is at most 800
+pub on_card_most : (share : ℕ) → on_card share ≡ true → share ≤ 800
+on_card_most share e = go (eqb share 600) (eqb share 700) refl refl
+  where
+    go : (a b : Bool) → eqb share 600 ≡ a → eqb share 700 ≡ b → share ≤ 800
+    go true b h k = let n = eqb-true share 600 h in omega arith
+    go false true h k = let n = eqb-true share 700 k in omega arith
+    go false false h k = let n = is_750 share e (eqb-false share 600 h) (eqb-false share 700 k) in omega arith
 
 -- ---- past the card, where the weight stays the same
 

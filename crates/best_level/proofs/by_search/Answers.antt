@@ -33,6 +33,6 @@ returns c =
     record {
       level =
           found_level a.side a.keys.now a.volumes.now a.guess.start a.minimum.0 c.requires.0 c.search-found.result c.search-found.ensures c.requires.1 c.requires.2
-          c.quote_key.result c.less.result c.quote_key.ensures c.less.ensures;
+          c.quote_key.result c.saturating_sub.result c.quote_key.ensures c.saturating_sub.ensures;
       sums = ap (λ (n : ℕ). a.guess.sums + n) c.search-found.ensures.sums;
     }

@@ -8,5 +8,5 @@ use Rattle.best_level.proofs.falls_short.Goals as goal
 pub returns : goal.returns
 returns c =
     let l = c.args.level in
-    ap (λ (n : ℕ). ltb (8 * n) c.wide-2.result) c.wide.ensures.0
-    ∙ ap (ltb (8 * l.at)) (c.wide-2.ensures.0 ∙ c.lacking.ensures)
+    ap (λ (n : ℕ). ltb (8 * n) c.from-2.result) c.from.ensures
+    ∙ ap (ltb (8 * l.at)) (c.from-2.ensures ∙ c.lacking.ensures)

@@ -13,6 +13,6 @@ returns-then-minimum-level c =
 pub returns : goal.returns
 returns c =
     let a = c.args in
-    c.less.ensures
+    c.saturating_sub.ensures
     ∙ ap (λ (n : ℕ). a.minimum.0 - n) c.sum.ensures
     ∙ sym (where_short a.minimum.0 a.level.before (a.level.before - a.minimum.0) (a.minimum.0 - (a.level.before + a.level.at)) c.if-minimum-level.false)

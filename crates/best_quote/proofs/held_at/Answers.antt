@@ -28,24 +28,3 @@ pub returns : goal.returns
 returns c =
     let end : c.loop-i.i ≡ length c.args.keys.now = omega arith in
     held_all (eqb c.args.key) c.loop-i.i c.args.keys.now c.args.volumes.now c.loop-i.at end c.requires.even c.loop-i.invariant.1
-
-pub offset_bounds-keys-i : goal.offset_bounds-keys-i
-offset_bounds-keys-i c = omega arith
-
-pub bounds-keys-i : goal.bounds-keys-i
-bounds-keys-i c = omega arith
-
-pub offset_bounds-volumes-i : goal.offset_bounds-volumes-i
-offset_bounds-volumes-i c = omega arith
-
-pub bounds-volumes-i : goal.bounds-volumes-i
-bounds-volumes-i c = omega arith
-
-pub volume_where-requires : goal.volume_where-requires
-volume_where-requires c = tt
-
-pub overflow_add-i : goal.overflow_add-i
-overflow_add-i c = omega arith
-
-pub loop-i-smaller : goal.loop-i-smaller
-loop-i-smaller c = omega arith

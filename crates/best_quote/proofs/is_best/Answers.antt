@@ -2,7 +2,6 @@
 use Prim.Native.Nat.{ℕ}
 use mathlib.Core.Path.{ap}
 use mathlib.Core.Bool.{◌&&◌, ◌||◌}
-use borrow.Author.Rules.{rules}
 use lib.Dec.{eqb, leb, ltb}
 use Rattle.best_quote.specs.Levels.{is_best}
 use Rattle.best_quote.proofs.is_best.Goals as goal

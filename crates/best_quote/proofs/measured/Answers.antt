@@ -47,26 +47,5 @@ returns c =
       at = held_all (eqb c.args.key) c.loop-i.i ks vs c.loop-i.at end c.requires.even c.loop-i.invariant.2 j;
     }
 
-pub offset_bounds-keys-i : goal.offset_bounds-keys-i
-offset_bounds-keys-i c = omega arith
-
-pub bounds-keys-i : goal.bounds-keys-i
-bounds-keys-i c = omega arith
-
-pub offset_bounds-volumes-i : goal.offset_bounds-volumes-i
-offset_bounds-volumes-i c = omega arith
-
-pub bounds-volumes-i : goal.bounds-volumes-i
-bounds-volumes-i c = omega arith
-
-pub volume_where-requires : goal.volume_where-requires
-volume_where-requires c = tt
-
 pub volume_where-requires-in-loop-i : goal.volume_where-requires-in-loop-i
 volume_where-requires-in-loop-i c = tt
-
-pub overflow_add-i : goal.overflow_add-i
-overflow_add-i c = omega arith
-
-pub loop-i-smaller : goal.loop-i-smaller
-loop-i-smaller c = omega arith

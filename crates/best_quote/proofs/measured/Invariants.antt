@@ -13,6 +13,3 @@ use Rattle.best_quote.proofs.measured.Given as goal
 abbrev pub invariant-loop-i : goal.invariant-loop-i
 invariant-loop-i l =
     (l.i ≤ length l.keys) × (l.before ≡ held (ltb l.key) (take l.i l.keys) (take l.i l.volumes)) × (l.at ≡ held (eqb l.key) (take l.i l.keys) (take l.i l.volumes))
-
-abbrev pub decreases-loop-i : goal.decreases-loop-i
-decreases-loop-i l = length l.keys - l.i

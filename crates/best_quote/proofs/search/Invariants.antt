@@ -1,21 +1,11 @@
 -- `best_quote::search` meets its contract. The outer loop's invariant: the best key found, W3's number and the most of the sums that were
-use Prim.Native.Nat.{ℕ, ◌+◌, ◌-◌, ◌≤◌, ◌<◌, max}
-use native.Mathlib.Omega.{arith}
-use mathlib.Core.Path.{◌≡◌, refl, sym, ap, ◌∙◌}
-use mathlib.Core.List.{List}
-use mathlib.Core.Bool.{Bool, true, false}
-use borrow.Author.Tests.{le-leb, lt-leb, le-ltb, lt-ltb}
+use Prim.Native.Nat.{◌-◌, ◌≤◌}
+use mathlib.Core.Path.{◌≡◌}
 use lib.Dec.{leb}
-use lib.ListN.{length, get_or, take}
-use lib.Seq.{take-length}
-use Rattle.lists.specs.Lists.{filter}
-use Rattle.price_keys.specs.Keys.{quote_at}
+use lib.ListN.{length, take}
 use Rattle.best_quote.specs.Levels.{enough, greatest, found_by, short_by, depth_from}
 use Rattle.best_quote.specs.Levels as L
 use Rattle.best_quote.specs.Sums.{key_sums}
-use Rattle.best_quote.proofs.Loops.{held_next, held_fits, held_all, found-better, found_few, found_worse, sums_better, sums_worse}
-use Rattle.best_quote.proofs.Short.{short_enough, short_few, short_worse, short_next}
-use Rattle.best_quote.proofs.Finding.{finds}
 use Rattle.best_quote.proofs.search.Given as goal
 
 abbrev pub invariant-volumes : goal.invariant-volumes

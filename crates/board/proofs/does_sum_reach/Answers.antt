@@ -1,23 +1,18 @@
--- The products fit, since share, length and number of strikes are in their ranges.
-use Prim.Native.Nat.{ℕ, ◌*◌}
-use native.Mathlib.Omega.{arith}
-use mathlib.Core.Path.{ap}
+-- The library's sum is a hundred times the definition's, and the products fit.
+use Prim.Native.Nat.{◌*◌}
+use mathlib.Core.Path.{◌≡◌, ap, ◌∙◌}
+use mathlib.Core.List.{map}
 use lib.Dec.{leb}
 use lib.ListN.{length}
-use Rattle.board.proofs.Boards.{share_most, shares_most}
+use Rattle.std.proofs.Common.{rules}
+use Rattle.std.proofs.iter.runs.Sources.{sums}
+use Rattle.lists.specs.Lists.{sum}
+use Rattle.rules.specs.Boards.{kept_of}
+use Rattle.board.proofs.Fronts.{sum-sum_by, sum-hundredfold}
 use Rattle.board.proofs.does_sum_reach.Goals as goal
-
-pub overflow_mul-result : goal.overflow_mul-result
-overflow_mul-result c =
-    let a = c.args in
-    omega (arith, share_most a.second a.l (omega arith) (omega arith))
-
-pub overflow_mul-result-2 : goal.overflow_mul-result-2
-overflow_mul-result-2 c =
-    let a = c.args in
-    omega (arith, shares_most a.second a.l (length a.strikes.now) (omega arith) (omega arith) (omega arith))
 
 pub returns : goal.returns
 returns c =
     let a = c.args in
-    ap (λ (n : ℕ). leb (a.second * a.l * length a.strikes.now) (100 * n)) c.kept_sum-total.ensures.0
+    let e : c.sum-hundredfold.result ≡ sum (map (λ s. 100 * kept_of s) a.strikes.now) = rw sum-sum_by (search (rules, sums)) in
+    simp (c.from.ensures, c.from-2.ensures) (ap (leb (a.second * a.l * length a.strikes.now)) (e ∙ sum-hundredfold kept_of a.strikes.now))

@@ -9,7 +9,7 @@ use Rattle.lists.proofs.Lists.{both}
 use Rattle.book.specs.Internal.{add_of}
 use Rattle.order_table.proofs.Table.{side_few, part_sized, part_room}
 use Rattle.book.proofs.Causes.{add-known, add_outside, add_full, add_passes}
-use Rattle.book.proofs.Applied.{refuses, not_refused, applied_add}
+use Rattle.book.proofs.Applied.{refuses, applied_add}
 use Rattle.book.proofs.add.Goals as goal
 
 pub returns-then-slot-lt128 : goal.returns-then-slot-lt128
@@ -17,9 +17,9 @@ returns-then-slot-lt128 c =
     let a = c.args in
     let o = a.order in (
       λ t minimum live represents at.
-          refuses (add_of t o) minimum live a.table.now represents 9 c.refused.result c.refused.ensures
+          refuses (add_of t o) minimum live a.table.now represents 9 _ refl
           (add-known live represents.good o.id a.slot at t o.side o.price o.volume c.if-slot-lt128.true),
-      λ h. refl,
+      refl,
     )
 
 pub returns-then-count-ge64 : goal.returns-then-count-ge64
@@ -27,10 +27,10 @@ returns-then-count-ge64 c =
     let a = c.args in
     let o = a.order in (
       λ t minimum live represents at.
-          refuses (add_of t o) minimum live a.table.now represents 12 c.refused-then-count-ge64.result c.refused-then-count-ge64.ensures
+          refuses (add_of t o) minimum live a.table.now represents 12 _ refl
           (add_full live represents.good o.id a.slot at t o.side o.price o.volume c.if-slot-lt128.false (sym c.in_range.ensures ∙ c.if-in_range.true)
           (subst (λ (n : ℕ). 64 ≤ n) (c.count.ensures minimum live represents.good represents.is) c.if-count-ge64.true)),
-      λ h. refl,
+      refl,
     )
 
 pub overflow_add-s-then-in_range : goal.overflow_add-s-then-in_range
@@ -43,8 +43,8 @@ note-requires c =
     let behind : (n : ℕ) → n < 2 → get_or c.args.table.now (256 * n + 192) 0 ≤ 64 = λ n h. side_few c.args.table.now c.requires.0.minimum c.requires.0.live c.requires.0.represents n h in
     (c.requires.1, omega (arith, behind c.side_number-s.result c.side_number-s.ensures.small))
 
-pub add-requires : goal.add-requires
-add-requires c =
+pub add-change-requires : goal.add-change-requires
+add-change-requires c =
     let o = c.args.order in
     let l = c.requires.0 in
     let table = c.args.table.now in
@@ -64,10 +64,10 @@ returns-then-in_range c =
       λ t minimum live represents at.
           let few : length live < 64 =
           subst (λ (m : ℕ). m < 64) (c.count.ensures minimum live represents.good represents.is) c.if-count-ge64.false in
-          applied_add t minimum live a.table.now represents o c.side_number-s.result c.add.new.words c.add.result c.done.result
+          applied_add t minimum live a.table.now represents o c.side_number-s.result c.add-change.new.words c.add-change.result _
           (add_passes live represents.good o.id a.slot at t o.side o.price o.volume c.if-slot-lt128.false (sym c.in_range.ensures ∙ c.if-in_range.true) few)
-          c.side_number-s.ensures c.add.ensures c.done.ensures,
-      not_refused _ _ _ c.done.result c.done.ensures,
+          c.side_number-s.ensures c.add-change.ensures refl,
+      tt,
     )
 
 pub returns : goal.returns
@@ -75,7 +75,7 @@ returns c =
     let a = c.args in
     let o = a.order in (
       λ t minimum live represents at.
-          refuses (add_of t o) minimum live a.table.now represents 11 c.refused-2.result c.refused-2.ensures
+          refuses (add_of t o) minimum live a.table.now represents 11 _ refl
           (add_outside live represents.good o.id a.slot at t o.side o.price o.volume c.if-slot-lt128.false (sym c.in_range.ensures ∙ c.if-in_range.false)),
-      λ h. refl,
+      refl,
     )

@@ -4,16 +4,16 @@ use borrow.Author.Rules.{rules}
 use Rattle.rules.specs.declared.Event.TheVariants.{Cancel}
 use Rattle.rules.specs.Units.{millis}
 use Rattle.book.proofs.Causes.{cancel_unknown, cancel_passes}
-use Rattle.book.proofs.Applied.{refuses, not_refused, applied_cancel, placed, lent_removable}
+use Rattle.book.proofs.Applied.{refuses, applied_cancel, placed, lent_removable}
 use Rattle.book.proofs.cancel.Goals as goal
 
 pub returns-then-slot-ge128 : goal.returns-then-slot-ge128
 returns-then-slot-ge128 c =
     let a = c.args in (
       λ t id minimum live represents at.
-          refuses (Cancel t id) minimum live a.table.now represents 10 c.refused.result c.refused.ensures
+          refuses (Cancel t id) minimum live a.table.now represents 10 _ refl
           (cancel_unknown live represents.good id a.slot at t c.if-slot-ge128.true),
-      λ h. refl,
+      refl,
     )
 
 pub remove-change-requires : goal.remove-change-requires
@@ -35,6 +35,6 @@ returns c =
     let there = c.if-slot-ge128.false in (
       λ t id minimum live represents at.
           applied_cancel t minimum live a.table.now represents id a.slot at there c.remove-change.new.words c.remove-change.result
-          c.done.result (cancel_passes live represents.good id a.slot at t there) c.remove-change.ensures c.done.ensures,
-      not_refused _ _ _ c.done.result c.done.ensures,
+          _ (cancel_passes live represents.good id a.slot at t there) c.remove-change.ensures refl,
+      tt,
     )

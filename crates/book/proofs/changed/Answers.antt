@@ -7,7 +7,7 @@ use Rattle.rules.specs.declared.Event.{Event}
 use Rattle.rules.specs.Answers.{Outcome}
 use Rattle.order_table.specs.Table.{slot_in}
 use Rattle.order_table.specs.Internal.{Located}
-use Rattle.book.specs.Internal.{add_of, Applied, AppliedRead}
+use Rattle.book.specs.Internal.{answered, add_of, Applied, AppliedRead}
 use Rattle.order_table.proofs.Table.{held-represents, held-length}
 use Rattle.book.proofs.ByKind.{says_amend, says_add}
 use Rattle.book.proofs.changed.Goals as goal
@@ -31,7 +31,7 @@ pub returns-then-kind-eq3 : goal.returns-then-kind-eq3
 returns-then-kind-eq3 c =
     let f = c.args.f in (
       λ minimum live represents.
-          subst (λ (o : Outcome Event). AppliedRead o minimum live c.args.table.now c.amend.new.table c.amend.result) (says_amend f c.if-kind-eq3.true)
+          subst (λ (o : Outcome Event). AppliedRead o minimum live c.args.table.now c.amend.new.table (answered c.amend.result)) (says_amend f c.if-kind-eq3.true)
           (c.amend.ensures.0 f.t f.id minimum live represents (c.find-slot.ensures minimum live represents)),
       c.amend.ensures.1,
     )
@@ -56,9 +56,9 @@ returns-then-is_add c =
     let f = c.args.f in (
       λ minimum live represents.
           let at = c.find-slot.ensures minimum live represents ∙ ap (λ (o : Order). slot_in o.id live) (sym c.order_of.ensures) in
-          subst (λ (o : Outcome Event). AppliedRead o minimum live c.args.table.now c.add.new.table c.add.result)
+          subst (λ (o : Outcome Event). AppliedRead o minimum live c.args.table.now c.add.new.table (answered c.add.result))
           (says_add f (sym c.is_add.ensures ∙ c.if-is_add.true))
-          (subst (λ (o : Order). Applied (add_of f.t o) minimum live c.add.new.table c.add.result) c.order_of.ensures (c.add.ensures.0 f.t minimum live represents at)),
+          (subst (λ (o : Order). Applied (add_of f.t o) minimum live c.add.new.table (answered c.add.result)) c.order_of.ensures (c.add.ensures.0 f.t minimum live represents at)),
       c.add.ensures.1,
     )
 

@@ -22,10 +22,10 @@ bounds-buffer-5 c = simp length-set (omega arith)
 pub bounds-buffer-6 : goal.bounds-buffer-6
 bounds-buffer-6 c = simp length-set (omega arith)
 
-pub returns-in-Finished : goal.returns-in-Finished
-returns-in-Finished c =
-    let p = account_finished c.args.answer _ _ c.args.buffer.now c.in-Finished.is in record { number = p.0; words = p.1 }
+pub returns-in-Ok : goal.returns-in-Ok
+returns-in-Ok c =
+    let p = account_finished c.args.answer _ c.args.buffer.now c.in-Ok.is in record { number = p.0; words = p.1 }
 
-pub returns-in-Refused : goal.returns-in-Refused
-returns-in-Refused c =
-    let p = account_refused c.args.answer _ _ c.refused_at.result c.args.buffer.now c.in-Refused.is c.refused_at.ensures in record { number = p.0; words = p.1 }
+pub returns-in-Err : goal.returns-in-Err
+returns-in-Err c =
+    let p = account_refused c.args.answer _ c.refused_at.result c.args.buffer.now c.in-Err.is c.refused_at.ensures in record { number = p.0; words = p.1 }

@@ -1,6 +1,9 @@
 -- 16, or the bytes put.
 use Rattle.c_answers.proofs.Filling.{front_not, front-whole}
-use borrow.Author.Rules.{rules}
+use Prim.Native.Nat.{ℕ}
+use mathlib.Core.Path.{ap}
+use mathlib.Core.List.{List, ◌++◌}
+use lib.ListN.{drop}
 use Rattle.c_answers.proofs.fill_bytes.Goals as goal
 
 pub returns-then-text-n : goal.returns-then-text-n
@@ -9,4 +12,6 @@ returns-then-text-n c =
 
 pub returns : goal.returns
 returns c =
-    front-whole c.args.bytes.now c.args.text.now _ c.args.n c.requires c.if-text-n.false c.put_bytes.ensures
+    let a = c.args in
+    front-whole a.bytes.now a.text.now _ a.n c.requires c.if-text-n.false
+    (ap (λ (l : List ℕ). l ++ drop a.n a.text.now) c.copy_from_slice.ensures.after)

@@ -1,11 +1,9 @@
 -- 16, or the words copied to the front.
 use Prim.Native.Nat.{ℕ}
-use mathlib.Core.Path.{refl, sym, ap}
+use mathlib.Core.Path.{refl, ap}
 use mathlib.Core.List.{List, ◌++◌}
 use lib.ListN.{length, drop}
-use lib.Seq.{length-take-le}
 use Rattle.c_answers.proofs.Filling.{fills_not, fills_whole}
-use borrow.Author.Rules.{rules}
 use Rattle.c_answers.proofs.fill_words.Goals as goal
 
 pub returns-then-buffer-n : goal.returns-then-buffer-n
@@ -13,14 +11,8 @@ returns-then-buffer-n c =
     let a = c.args in
     fills_not a.words.now a.buffer.now c.refused.result c.if-buffer-n.true c.refused.ensures
 
-pub slice_bounds-copy-end-2 : goal.slice_bounds-copy-end-2
-slice_bounds-copy-end-2 c = let a = c.args in sym (length-take-le (length a.words.now) a.buffer.now c.if-buffer-n.false)
-
-pub copy-requires : goal.copy-requires
-copy-requires c = let a = c.args in length-take-le (length a.words.now) a.buffer.now c.if-buffer-n.false
-
 pub returns : goal.returns
 returns c =
     let a = c.args in
     fills_whole a.words.now a.buffer.now _ _ c.if-buffer-n.false
-    (ap (λ (l : List ℕ). l ++ drop (length a.words.now) a.buffer.now) c.copy.ensures) refl
+    (ap (λ (l : List ℕ). l ++ drop (length a.words.now) a.buffer.now) c.copy_from_slice.ensures.after) refl

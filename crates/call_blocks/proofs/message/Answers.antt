@@ -8,4 +8,4 @@ pub returns : goal.returns
 returns c =
     let ws = words_in c.args.bytes.now in
     c.part.ensures
-    ∙ λ i. take ((c.length-n.ensures.0 ∙ c.word-2.ensures) i) (drop ((c.length-at.ensures.0 ∙ c.word.ensures) i) (bytes_of (drop 3 ws)))
+    ∙ λ i. take ((c.word-n.ensures) i) (drop ((c.word-at.ensures) i) (bytes_of (drop 3 ws)))

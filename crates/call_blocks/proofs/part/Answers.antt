@@ -11,5 +11,5 @@ returns c =
     let a = c.args in
     let b = a.bytes.now in
     let w : 4 * c.count.result ≡ 4 * (length b / 4) = ap (λ (m : ℕ). 4 * m) (c.count.ensures.0 ∙ words_length b) in
-    part_is b a.at a.n (4 * c.count.result) c.min_length-start.result c.min_length-end.result w
-    c.min_length-end.ensures c.min_length-start.ensures (λ i. (c.shared_slice_known-1.given i).fits)
+    part_is b a.at a.n (4 * c.count.result) c.min-start.result c.min-end.result w
+    c.min-end.ensures c.min-start.ensures (λ i. (c.shared_slice_known-1.given i).fits)

@@ -8,4 +8,4 @@ use Rattle.call_blocks.proofs.start.Goals as goal
 pub returns : goal.returns
 returns c =
     let ws = words_in c.args.bytes.now in
-    c.part.ensures ∙ ap (λ (n : ℕ). take n (bytes_of (drop 3 ws))) (c.length.ensures.0 ∙ c.word.ensures)
+    c.part.ensures ∙ ap (λ (n : ℕ). take n (bytes_of (drop 3 ws))) (c.word.ensures)

@@ -6,4 +6,4 @@ use Rattle.call_blocks.proofs.wide_at.Goals as goal
 pub returns : goal.returns
 returns c =
     let a = c.args in
-    wide_is (words_in a.bytes.now) a.i c.word.ensures c.word-2.ensures c.wide-low.ensures.0 c.wide-high.ensures.0
+    wide_is (words_in a.bytes.now) a.i c.word.ensures c.word-2.ensures c.from-low.ensures c.from-high.ensures

@@ -62,10 +62,6 @@ next-at-requires c =
       is_some (words_in c.args.bytes.now) c.args.answers.now c.loop-k.answers c.loop-k.month c.loop-k.at c.loop-k.k c.loop-k.invariant.0 h,
     )
 
-pub overflow_add-k : goal.overflow_add-k
-overflow_add-k c =
-    omega (arith, c.well_formed, c.loop-k.invariant.0.room, c.loop-k.invariant.1)
-
 pub loop-k-preserved : goal.loop-k-preserved
 loop-k-preserved c =
     let n : 20 * c.loop-k.k + 20 - 20 * c.loop-k.k ≡ 20 = omega arith in

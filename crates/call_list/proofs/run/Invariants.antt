@@ -13,6 +13,3 @@ use Rattle.call_list.proofs.run.Given as goal
 abbrev pub invariant-loop-k : goal.invariant-loop-k
 invariant-loop-k l =
     Ongoing (words_in l.bytes) l.initial.answers l.answers l.month l.at l.k × (l.calls ≡ length (calls_of (words_in l.bytes))) × (length l.hints ≡ 2048)
-
-abbrev pub decreases-loop-k : goal.decreases-loop-k
-decreases-loop-k l = l.calls - l.k

@@ -1,6 +1,5 @@
 -- `call_step::message` meets its contract: what is handed on are the bytes that the block says.
 use Rattle.call_step.proofs.Performing.{same_message}
-use borrow.Author.Rules.{rules}
 use Rattle.call_step.proofs.message.Goals as goal
 
 pub returns : goal.returns

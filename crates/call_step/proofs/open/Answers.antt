@@ -8,7 +8,6 @@ use lib.ListN.{length-take}
 use Rattle.words.specs.Bytes.{words_in}
 use Rattle.call_blocks.specs.Kinds.{row_at}
 use Rattle.call_step.proofs.Rows.{handed}
-use borrow.Author.Rules.{rules}
 use Rattle.call_step.proofs.open.Goals as goal
 
 pub slice_bounds-open-end : goal.slice_bounds-open-end

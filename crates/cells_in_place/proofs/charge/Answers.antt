@@ -18,14 +18,14 @@ use Rattle.cells_in_place.proofs.charge.Goals as goal
 pub returns-then-not-both_charges : goal.returns-then-not-both_charges
 returns-then-not-both_charges c =
     let a = c.args in
-    cell_out a.words.now _ (place_of a.day a.expiry a.quantum) (charged a.active a.passive) c.number.result c.number.ensures
+    cell_out a.words.now _ (place_of a.day a.expiry a.quantum) (charged a.active a.passive) c.from.result c.from.ensures
     (ap (λ (t : Bool). good_cell a.day a.expiry a.quantum && t) (sym c.both_charges.ensures ∙ c.if-not-both_charges.true)
     ∙ and-false (good_cell a.day a.expiry a.quantum))
 
 pub returns-then-not-cell : goal.returns-then-not-cell
 returns-then-not-cell c =
     let a = c.args in
-    cell_out a.words.now _ (place_of a.day a.expiry a.quantum) (charged a.active a.passive) c.number-then-not-cell.result c.number-then-not-cell.ensures
+    cell_out a.words.now _ (place_of a.day a.expiry a.quantum) (charged a.active a.passive) c.from-then-not-cell.result c.from-then-not-cell.ensures
     (ap (λ (t : Bool). t && good_charges paper a.active a.passive) (sym c.cell.ensures ∙ c.if-not-cell.true))
 
 pub place_of-place-requires : goal.place_of-place-requires
@@ -41,7 +41,7 @@ pub returns-then-not-cell-2 : goal.returns-then-not-cell-2
 returns-then-not-cell-2 c =
     let a = c.args in
     cell_blank a.words.now _ (place_of a.day a.expiry a.quantum) (charged a.active a.passive) (and (sym c.cell.ensures ∙ c.if-not-cell.false) (sym c.both_charges.ensures ∙ c.if-not-both_charges.false)) c.at-cell.result
-    (λ cells is. c.at-cell.ensures cells is ∙ ap (cell_at cells) c.place_of-place.ensures) c.number-then-not-cell-2.result c.number-then-not-cell-2.ensures (not-true _ c.if-not-cell-2.true)
+    (λ cells is. c.at-cell.ensures cells is ∙ ap (cell_at cells) c.place_of-place.ensures) c.from-then-not-cell-2.result c.from-then-not-cell-2.ensures (not-true _ c.if-not-cell-2.true)
 
 pub put-requires : goal.put-requires
 put-requires c =

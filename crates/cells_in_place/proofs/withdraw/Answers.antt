@@ -14,7 +14,7 @@ use Rattle.cells_in_place.proofs.withdraw.Goals as goal
 pub returns-then-not-cell : goal.returns-then-not-cell
 returns-then-not-cell c =
     let a = c.args in
-    cell_out a.words.now _ (place_of a.day a.expiry a.quantum) (λ (x : Cell). blank_cell) c.number.result c.number.ensures
+    cell_out a.words.now _ (place_of a.day a.expiry a.quantum) (λ (x : Cell). blank_cell) c.from.result c.from.ensures
     (sym c.cell.ensures ∙ c.if-not-cell.true)
 
 pub place_of-place-requires : goal.place_of-place-requires
@@ -30,7 +30,7 @@ pub returns-then-not-cell-2 : goal.returns-then-not-cell-2
 returns-then-not-cell-2 c =
     let a = c.args in
     cell_blank a.words.now _ (place_of a.day a.expiry a.quantum) (λ (x : Cell). blank_cell) (sym c.cell.ensures ∙ c.if-not-cell.false) c.at-cell.result
-    (λ cells is. c.at-cell.ensures cells is ∙ ap (cell_at cells) c.place_of-place.ensures) c.number-then-not-cell-2.result c.number-then-not-cell-2.ensures (not-true _ c.if-not-cell-2.true)
+    (λ cells is. c.at-cell.ensures cells is ∙ ap (cell_at cells) c.place_of-place.ensures) c.from-then-not-cell-2.result c.from-then-not-cell-2.ensures (not-true _ c.if-not-cell-2.true)
 
 pub put-requires : goal.put-requires
 put-requires c =

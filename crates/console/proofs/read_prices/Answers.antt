@@ -23,7 +23,7 @@ loop-i-preserved c =
     let a = c.args in (
       omega arith,
       l.invariant.1,
-      again (due a.bytes.now a.from) (pos 0) a.prices.now l.prices l.i _ (omega (arith, l.invariant.1)) l.invariant.2 (to_z-of_z {w = w32} (record { sfits = c.price_at-p.type_inv }) ∙ c.price_at-p.ensures),
+      again (due a.bytes.now a.from) (pos 0) a.prices.now l.prices l.i _ (omega (arith, l.invariant.1)) l.invariant.2 (to_z-of_z {w = w32} (record { sfits = c.price_at.type_inv }) ∙ c.price_at.ensures),
     )
 
 pub returns : goal.returns

@@ -1,5 +1,7 @@
 -- The matched case of `doubled`.
-use mathlib.Core.Path.{sym, ap, ◌∙◌}
+use Prim.Native.Nat.{◌*◌, min}
+use native.Mathlib.Omega.{arith}
+use mathlib.Core.Path.{◌≡◌, sym, ap, ◌∙◌}
 use Rattle.rules.specs.declared.SpreadRule.{SpreadRule}
 use Rattle.ease.specs.Easing.{doubled}
 use Rattle.ease.proofs.double.Goals as goal
@@ -7,4 +9,5 @@ use Rattle.ease.proofs.double.Goals as goal
 pub returns-in-Settled : goal.returns-in-Settled
 returns-in-Settled c =
     let a = c.args in
-    c.twice.ensures ∙ sym (ap (λ (s : SpreadRule). doubled s a.most a.n) c.in-Settled.is)
+    let twice : c.min.result ≡ min (2 * a.n) a.most = omega arith in
+    twice ∙ sym (ap (λ (s : SpreadRule). doubled s a.most a.n) c.in-Settled.is)

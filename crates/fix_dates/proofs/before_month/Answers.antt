@@ -2,7 +2,6 @@
 use Prim.Native.Nat.{◌+◌}
 use native.Mathlib.Omega.{arith}
 use Rattle.fix_dates.proofs.Months.{table, month_is, twelfth}
-use borrow.Author.Rules.{rules}
 use Rattle.fix_dates.proofs.before_month.Goals as goal
 
 pub returns-in-1 : goal.returns-in-1

@@ -3,7 +3,6 @@ use Prim.Native.Nat.{◌-◌}
 use mathlib.Core.Path.{sym}
 use native.Mathlib.Omega.{arith}
 use Rattle.fix_dates.proofs.Years.{counted, most_days}
-use borrow.Author.Rules.{rules}
 use Rattle.fix_dates.proofs.before_year.Goals as goal
 
 pub returns : goal.returns

@@ -4,7 +4,6 @@ use mathlib.Core.Path.{ap}
 use mathlib.Core.Bool.{◌&&◌}
 use lib.Dec.{leb}
 use Rattle.rules.specs.Dates.{good_date}
-use borrow.Author.Rules.{rules}
 use Rattle.fix_dates.proofs.date_good.Goals as goal
 
 pub returns : goal.returns

@@ -3,7 +3,6 @@ use Prim.Native.Nat.{◌+◌, ◌-◌}
 use native.Mathlib.Omega.{arith}
 use Rattle.rules.specs.Dates.{days_before}
 use Rattle.fix_dates.proofs.Ranges.{date_ranges}
-use borrow.Author.Rules.{rules}
 use Rattle.fix_dates.proofs.days.Goals as goal
 
 pub before_year-requires : goal.before_year-requires

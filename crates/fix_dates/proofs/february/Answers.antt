@@ -1,7 +1,6 @@
 -- `fix_dates::february` meets its contract: 29 where the year is a leap year (`leap_by`), 28 where it is not (`common_by`).
 use mathlib.Core.Path.{sym, ◌∙◌}
 use Rattle.fix_dates.proofs.Months.{leap_by, common_by}
-use borrow.Author.Rules.{rules}
 use Rattle.fix_dates.proofs.february.Goals as goal
 
 pub returns-then-leap : goal.returns-then-leap

@@ -1,6 +1,5 @@
 -- `fix_dates::formed` meets its contract: its tests of pairs and marks are those of the form, place by place (`formed_is`).
 use Rattle.fix_dates.proofs.Forms.{formed_is}
-use borrow.Author.Rules.{rules}
 use Rattle.fix_dates.proofs.formed.Goals as goal
 
 pub returns : goal.returns

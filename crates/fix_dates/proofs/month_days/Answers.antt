@@ -1,7 +1,6 @@
 -- `fix_dates::month_days` meets its contract: it branches as `month_days` does, into February (`month_february`), the months of 30 days
 use mathlib.Core.Path.{sym, ◌∙◌}
 use Rattle.fix_dates.proofs.Months.{month_february, month_thirty, month-other}
-use borrow.Author.Rules.{rules}
 use Rattle.fix_dates.proofs.month_days.Goals as goal
 
 pub returns-then-m-eq2 : goal.returns-then-m-eq2

@@ -1,19 +1,17 @@
 -- The 60's bytes say a time or none.
-use mathlib.Core.Path.{sym, ap, ◌∙◌}
-use Rattle.fix_dates.specs.Answers.{shown_time}
-use Rattle.fix_dates.proofs.Reading.{timed, no_sixty, with_sixty}
-use borrow.Author.Rules.{rules}
+use Rattle.std.proofs.Common.{◌∙◌, sym, arith}
+use Rattle.std.proofs.lemmas.Grind.{common_steps}
+use Rattle.rules.specs.declared.Refusal.TheVariants.{FieldWrong}
+use Rattle.fix_dates.proofs.Reading.{timed, told_some, no_sixty, with_sixty}
 use Rattle.fix_dates.proofs.since.Goals as goal
 
-pub returns-in_default : goal.returns-in_default
-returns-in_default c =
-    no_sixty c.args.start.now c.args.sixty.now (sym (ap shown_time c.in_default.is) ∙ c.time_in.ensures)
+pub returns-in_err-time : goal.returns-in_err-time
+returns-in_err-time c = grind (arith, common_steps, no_sixty)
 
 pub after-requires : goal.after-requires
-after-requires c =
-    timed c.args.sixty.now c.in-At.time (sym (sym (ap shown_time c.in-At.is) ∙ c.time_in.ensures))
+after-requires c = timed c.args.sixty.now c.in_ok-time.time (sym c.time_in.ensures ∙ told_some c.time_in.result FieldWrong c.in_ok-time.time (sym c.ok_or.ensures.value ∙ c.in_ok-time.was))
 
 pub returns : goal.returns
 returns c =
     c.after.ensures
-    ∙ with_sixty c.args.start.now c.args.sixty.now c.in-At.time (sym (ap shown_time c.in-At.is) ∙ c.time_in.ensures)
+    ∙ with_sixty c.args.start.now c.args.sixty.now c.in_ok-time.time (sym (told_some c.time_in.result FieldWrong c.in_ok-time.time (sym c.ok_or.ensures.value ∙ c.in_ok-time.was)) ∙ c.time_in.ensures)

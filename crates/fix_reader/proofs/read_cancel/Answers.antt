@@ -1,23 +1,21 @@
 -- `fix_reader::read_cancel` meets its contract: it takes each value in turn, as `message_of` does (`cancel_says`).
-use mathlib.Core.Path.{refl, sym, ap, ◌∙◌}
-use mathlib.Core.Option.{none, some}
+use Rattle.std.proofs.Common.{◌∙◌, refl, ap, None, Some, option_map}
 use Rattle.rules.specs.Digits.{word_in}
 use Rattle.rules.specs.Dates.{time_in}
 use Rattle.rules.specs.Fields.{values_of}
 use Rattle.rules.specs.Messages.{orig_tag, time_tag, once}
-use Rattle.fix_digits.specs.Answers.{shown_unsigned}
-use Rattle.fix_dates.specs.Answers.{shown_time}
+use Rattle.fix_reader.specs.Answers.{values_shown}
 use Rattle.fix_reader.proofs.Saying.{cancel_says}
 use Rattle.fix_reader.proofs.read_cancel.Goals as goal
 
-pub returns-in_default : goal.returns-in_default
-returns-in_default c = λ fs h. cancel_says fs none (once word_in (values_of orig_tag fs)) (once time_in (values_of time_tag fs)) (sym (ap shown_unsigned c.in_default.is) ∙ c.word.ensures fs h) refl refl
+pub returns-in_err-id : goal.returns-in_err-id
+returns-in_err-id c = λ fs h. ap (option_map values_shown) c.from_residual.ensures ∙ cancel_says fs None (once word_in (values_of orig_tag fs)) (once time_in (values_of time_tag fs)) (c.in_err-id.ensures fs h) refl refl
 
-pub returns-in_default-word : goal.returns-in_default-word
-returns-in_default-word c = λ fs h. cancel_says fs (some c.in-Is.id) none (once time_in (values_of time_tag fs)) (sym (ap shown_unsigned c.in-Is.is) ∙ c.word.ensures fs h) (sym (ap shown_unsigned c.in_default-word.is) ∙ c.word-2.ensures fs h) refl
+pub returns-in_err-orig : goal.returns-in_err-orig
+returns-in_err-orig c = λ fs h. ap (option_map values_shown) c.from_residual-in_err-orig.ensures ∙ cancel_says fs (Some c.in_ok-id.id) None (once time_in (values_of time_tag fs)) (c.in_ok-id.ensures fs h) (c.in_err-orig.ensures fs h) refl
 
-pub returns-in_default-time : goal.returns-in_default-time
-returns-in_default-time c = λ fs h. cancel_says fs (some c.in-Is.id) (some c.in-Is-word.orig) none (sym (ap shown_unsigned c.in-Is.is) ∙ c.word.ensures fs h) (sym (ap shown_unsigned c.in-Is-word.is) ∙ c.word-2.ensures fs h) (sym (ap shown_time c.in_default-time.is) ∙ c.time.ensures fs h)
+pub returns-in_err-time : goal.returns-in_err-time
+returns-in_err-time c = λ fs h. ap (option_map values_shown) c.from_residual-in_err-time.ensures ∙ cancel_says fs (Some c.in_ok-id.id) (Some c.in_ok-orig.orig) None (c.in_ok-id.ensures fs h) (c.in_ok-orig.ensures fs h) (c.in_err-time.ensures fs h)
 
 pub returns : goal.returns
-returns c = λ fs h. cancel_says fs (some c.in-Is.id) (some c.in-Is-word.orig) (some c.in-At.time) (sym (ap shown_unsigned c.in-Is.is) ∙ c.word.ensures fs h) (sym (ap shown_unsigned c.in-Is-word.is) ∙ c.word-2.ensures fs h) (sym (ap shown_time c.in-At.is) ∙ c.time.ensures fs h)
+returns c = λ fs h. cancel_says fs (Some c.in_ok-id.id) (Some c.in_ok-orig.orig) (Some c.in_ok-time.time) (c.in_ok-id.ensures fs h) (c.in_ok-orig.ensures fs h) (c.in_ok-time.ensures fs h)

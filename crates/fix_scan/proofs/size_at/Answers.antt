@@ -1,10 +1,9 @@
 -- `fix_scan::size_at` meets its contract: where a test fails the bytes say no length, and the last line is the length that they say.
+use Rattle.std.proofs.Common.{Option, Some, ℕ}
 use mathlib.Core.Path.{sym, ap, ◌∙◌}
 use native.Mathlib.Omega.{arith}
 use lib.ListN.{length-drop}
-use Rattle.fix_digits.specs.Answers.{shown_number}
 use Rattle.fix_frame.specs.Frames.{head_right}
-use Rattle.fix_scan.specs.Internal.{shown_size}
 use Rattle.fix_scan.proofs.Sizing.{rest_is, no_head, too_long, no_end, no_number, too_large, size_right}
 use Rattle.fix_scan.proofs.size_at.Goals as goal
 
@@ -37,15 +36,16 @@ slice_bounds-number_in-start c = omega (arith, c.digits_end-nine.ensures)
 pub slice_bounds-number_in-end : goal.slice_bounds-number_in-end
 slice_bounds-number_in-end c = omega (arith, c.requires, c.if-from-nine.false)
 
-pub returns-in_default : goal.returns-in_default
-returns-in_default c =
-    no_number c.args.b.now c.args.at c.requires c.digits_end-nine.result c.digits_end-nine.ensures c.if-from-nine.false
-    (sym (ap shown_number c.in_default.is) ∙ c.number_in.ensures)
+pub returns-in_err-n : goal.returns-in_err-n
+returns-in_err-n c =
+    c.from_residual.ensures
+    ∙ no_number c.args.b.now c.args.at c.requires c.digits_end-nine.result c.digits_end-nine.ensures c.if-from-nine.false
+    c.in_err-n.ensures
 
 pub returns-then-n-gt65535 : goal.returns-then-n-gt65535
 returns-then-n-gt65535 c =
-    too_large c.args.b.now c.args.at c.requires c.digits_end-nine.result c.digits_end-nine.ensures c.if-from-nine.false c.in-Is.n
-    (sym (ap shown_number c.in-Is.is) ∙ c.number_in.ensures) c.if-n-gt65535.true
+    too_large c.args.b.now c.args.at c.requires c.digits_end-nine.result c.digits_end-nine.ensures c.if-from-nine.false c.in_ok-n.n
+    c.in_ok-n.ensures c.if-n-gt65535.true
 
 pub overflow_sub-nine : goal.overflow_sub-nine
 overflow_sub-nine c = omega (arith, c.digits_end-nine.ensures)
@@ -55,7 +55,7 @@ whole_size-requires c = (omega arith, omega (arith, c.if-from-nine.false))
 
 pub returns : goal.returns
 returns c =
-    ap shown_size c.whole_size.ensures
-    ∙ size_right c.args.b.now c.args.at c.requires c.digits_end-nine.result c.digits_end-nine.ensures c.if-from-nine.false c.in-Is.n
-    (sym (ap shown_number c.in-Is.is) ∙ c.number_in.ensures) c.if-n-gt65535.false
+    ap {B = Option ℕ} (λ n. Some n) c.whole_size.ensures
+    ∙ size_right c.args.b.now c.args.at c.requires c.digits_end-nine.result c.digits_end-nine.ensures c.if-from-nine.false c.in_ok-n.n
+    c.in_ok-n.ensures c.if-n-gt65535.false
     (sym (ap head_right (rest_is c.args.b.now c.args.at)) ∙ sym c.head_good.ensures ∙ c.if-not-head_good.false) c.if-b-nine-ne1.false

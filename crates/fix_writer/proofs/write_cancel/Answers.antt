@@ -15,7 +15,7 @@ use Rattle.fix_writer.proofs.write_cancel.Goals as goal
 pub returns-then-not-time_good : goal.returns-then-not-time_good
 returns-then-not-time_good c =
     let good = c.time_good in
-    unwritten (cancel_order c.args.id c.args.orig c.args.sixty.now) c.refused.result (sym good.ensures ∙ c.if-not-time_good.true) c.refused.ensures
+    unwritten (cancel_order c.args.id c.args.orig c.args.sixty.now) (sym good.ensures ∙ c.if-not-time_good.true)
 
 pub put_time-d-requires : goal.put_time-d-requires
 put_time-d-requires c =

@@ -12,7 +12,7 @@ use Rattle.fix_writer.proofs.write_replace.Goals as goal
 pub returns-then-not-time_good : goal.returns-then-not-time_good
 returns-then-not-time_good c =
     let good = c.time_good in
-    unwritten (replace_order c.args.id c.args.orig c.args.side c.args.volume c.args.price c.args.sixty.now) c.refused.result (sym good.ensures ∙ c.if-not-time_good.true) c.refused.ensures
+    unwritten (replace_order c.args.id c.args.orig c.args.side c.args.volume c.args.price c.args.sixty.now) (sym good.ensures ∙ c.if-not-time_good.true)
 
 pub put_time-e-requires : goal.put_time-e-requires
 put_time-e-requires c =

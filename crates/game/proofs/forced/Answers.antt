@@ -1,7 +1,6 @@
 -- The code's steps are those of the closed form, which is the value.
 use Prim.Native.Nat.{ℕ, ◌-◌, ◌/◌, min}
 use mathlib.Core.Path.{◌≡◌, sym, ◌∙◌}
-use borrow.Author.Rules.{rules}
 use Rattle.game.specs.Value.{value, closed}
 use Rattle.game.proofs.Recurrence.{value-closed}
 use Rattle.game.proofs.forced.Goals as goal
@@ -14,7 +13,7 @@ by-steps m h k d v r e f g = g ∙ simp (f, e) (sym (value-closed m h k))
 pub returns : goal.returns
 returns c =
     let a = c.args in
-    by-steps a.m a.h a.k c.min-d.result c.min-v.result c.less.result
+    by-steps a.m a.h a.k c.min-d.result c.min-v.result c.saturating_sub.result
     c.min-d.ensures
     c.min-v.ensures
-    c.less.ensures
+    c.saturating_sub.ensures

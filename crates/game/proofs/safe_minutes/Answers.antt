@@ -1,6 +1,5 @@
 -- Each answer by the test of the three numbers.
 use mathlib.Core.Path.{ap, sym, ◌∙◌}
-use borrow.Author.Rules.{rules}
 use Rattle.rules.specs.Answers.{accepted}
 use Rattle.game.proofs.Answers.{refused_26, answered}
 use Rattle.game.proofs.safe_minutes.Goals as goal

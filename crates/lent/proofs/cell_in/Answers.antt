@@ -1,9 +1,9 @@
 -- Each field from its words.
 use mathlib.Core.Path.{◌∙◌}
+use lib.Dec.{eqb}
 use lib.ListN.{get_or}
 use Rattle.rules.specs.Units.{millis, kopecks}
 use Rattle.lent.proofs.Back.{cell_back}
-use borrow.Author.Rules.{rules}
 use Rattle.lent.proofs.cell_in.Goals as goal
 
 pub returns : goal.returns
@@ -11,7 +11,7 @@ returns c =
     λ k e.
     (λ i.
     record {
-      filled = c.is_set.ensures i;
+      filled = eqb (get_or c.args.words.now 0 0) 1;
       kept = millis (get_or c.args.words.now 1 0);
       length = millis (get_or c.args.words.now 2 0);
       share = get_or c.args.words.now 3 0;

@@ -18,7 +18,7 @@ use Rattle.messages_in_place.proofs.both_or_neither.Goals as goal
 pub returns-then-words-eq0 : goal.returns-then-words-eq0
 returns-then-words-eq0 c =
     let ws = c.args.words.now in (
-      λ start bytes h right. subst (ChangesMonth ws (Message start bytes) ws) (sym c.number.ensures) (message_idle c.args.words.now start bytes (replaced_at c.args.order c.args.orig (at c.args.t.0)) h right (at c.args.t.0) refl c.if-words-eq0.true),
+      λ start bytes h right. subst (ChangesMonth ws (Message start bytes) ws) (sym c.from.ensures) (message_idle c.args.words.now start bytes (replaced_at c.args.order c.args.orig (at c.args.t.0)) h right (at c.args.t.0) refl c.if-words-eq0.true),
       λ refused. refl,
     )
 

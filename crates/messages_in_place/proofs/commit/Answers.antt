@@ -15,7 +15,7 @@ use Rattle.messages_in_place.proofs.commit.Goals as goal
 pub returns-then-words-eq0 : goal.returns-then-words-eq0
 returns-then-words-eq0 c =
     let ws = c.args.words.now in
-    (subst (ChangesMonth ws (Commit c.args.a c.args.ticket) ws) (sym c.number.ensures) (commit_idle ws c.args.a c.args.ticket c.if-words-eq0.true), λ refused. refl)
+    (subst (ChangesMonth ws (Commit c.args.a c.args.ticket) ws) (sym c.from.ensures) (commit_idle ws c.args.a c.args.ticket c.if-words-eq0.true), λ refused. refl)
 
 pub returns-then-is_present : goal.returns-then-is_present
 returns-then-is_present c = (
@@ -32,5 +32,5 @@ refuses_amendment-requires c =
 pub returns : goal.returns
 returns c =
     let k = commit_refused c.args.words.now c.args.a c.args.ticket c.wide-count.result c.wide-count.ensures (sym c.is_present.ensures ∙ c.if-is_present.false)
-    c.if-words-eq0.false c.refuses_amendment.result c.first_of.result c.refuses_amendment.ensures (c.first_of.ensures ∙ ap (first_of_two c.refuses_amendment.result) c.number-2.ensures) in
+    c.if-words-eq0.false c.refuses_amendment.result c.first_of.result c.refuses_amendment.ensures (c.first_of.ensures ∙ ap (first_of_two c.refuses_amendment.result) c.from-2.ensures) in
     (k.1, λ refused. refl)

@@ -1,72 +1,20 @@
--- What was read, at its time, is done by its type; what was not is refused by 20 or 21.
-use native.Mathlib.Omega.{arith}
-use mathlib.Core.Path.{refl, sym, ap, ◌∙◌, subst}
-use Rattle.rules.specs.declared.Order.{Order}
-use Rattle.rules.specs.Messages.{new_order, cancel_order, replace_order}
+-- What was read, at its time, is done by its type; what was not is refused.
+use Rattle.std.proofs.Common.{sym, subst, refl, arith}
+use Rattle.rules.specs.Answers.{number_of}
 use Rattle.rules.specs.Calls.{Message}
-use Rattle.fix_dates.specs.Answers.{shown_elapsed}
-use Rattle.fix_reader.specs.Answers.{shown_message}
-use Rattle.fix_reader.proofs.Times.{read_fits}
-use Rattle.fix_events.specs.Internal.{at_time}
-use Rattle.fix_events.proofs.Messages.{read_at, unread_is}
-use Rattle.messages_in_place.specs.Internal.{new_at, replaced_at}
+use Rattle.fix_events.proofs.Messages.{numbered}
 use Rattle.month_in_place.specs.Events.{ChangesMonth}
 use Rattle.messages_in_place.proofs.Messages.{message_unread}
 use borrow.Author.Rules.{rules}
 use Rattle.messages_in_place.proofs.message.Goals as goal
 
-pub after-requires : goal.after-requires
-after-requires c =
-    (read_fits c.args.message.now (new_order c.in-New.id c.in-New.side c.in-New.volume c.in-New.price c.in-New.time) (sym c.read.ensures ∙ ap shown_message c.in-New.is)).3
+pub returns-in-Ok : goal.returns-in-Ok
+returns-in-Ok c = (c.taken.ensures.0 c.args.start.now c.args.message.now (sym c.in-Ok.ensures), c.taken.ensures.1)
 
-pub after-requires-in-Cancel : goal.after-requires-in-Cancel
-after-requires-in-Cancel c =
-    (read_fits c.args.message.now (cancel_order c.in-Cancel.id c.in-Cancel.orig c.in-Cancel.time) (sym c.read.ensures ∙ ap shown_message c.in-Cancel.is)).2
-
-pub after-requires-in-Replace : goal.after-requires-in-Replace
-after-requires-in-Replace c =
-    (read_fits c.args.message.now (replace_order c.in-Replace.id c.in-Replace.orig c.in-Replace.side c.in-Replace.volume c.in-Replace.price c.in-Replace.time) (sym c.read.ensures ∙ ap shown_message c.in-Replace.is)).4
-
-pub returns-in-New : goal.returns-in-New
-returns-in-New c =
-    let read = sym (ap shown_message c.in-New.is) ∙ c.read.ensures in (
-      c.new_order.ensures.0 c.args.start.now c.args.message.now
-          (read_at c.args.start.now c.args.message.now (new_order c.in-New.id c.in-New.side c.in-New.volume c.in-New.price c.in-New.time) (shown_elapsed c.after.result) read c.after.ensures
-          ∙ ap (λ (o : Order). at_time (new_at o) (shown_elapsed c.after.result)) (sym c.order_of.ensures)),
-      c.new_order.ensures.1,
-    )
-
-pub returns-in-Cancel : goal.returns-in-Cancel
-returns-in-Cancel c =
-    let read = sym (ap shown_message c.in-Cancel.is) ∙ c.read.ensures in (
-      c.cancel_order.ensures.0 c.args.start.now c.args.message.now
-          (read_at c.args.start.now c.args.message.now (cancel_order c.in-Cancel.id c.in-Cancel.orig c.in-Cancel.time) (shown_elapsed c.after-in-Cancel.result) read c.after-in-Cancel.ensures),
-      c.cancel_order.ensures.1,
-    )
-
-pub returns-in-Replace : goal.returns-in-Replace
-returns-in-Replace c =
-    let read = sym (ap shown_message c.in-Replace.is) ∙ c.read.ensures in (
-      c.replace_order.ensures.0 c.args.start.now c.args.message.now
-          (read_at c.args.start.now c.args.message.now (replace_order c.in-Replace.id c.in-Replace.orig c.in-Replace.side c.in-Replace.volume c.in-Replace.price c.in-Replace.time) (shown_elapsed c.after-in-Replace.result) read c.after-in-Replace.ensures
-          ∙ ap (λ (o : Order). at_time (replaced_at o c.in-Replace.orig) (shown_elapsed c.after-in-Replace.result)) (sym c.order_of-in-Replace.ensures)),
-      c.replace_order.ensures.1,
-    )
-
-pub returns-in-FrameWrong : goal.returns-in-FrameWrong
-returns-in-FrameWrong c =
-    let ws = c.args.words.now in
-    let read = sym (ap shown_message c.in-FrameWrong.is) ∙ c.read.ensures in (
-      subst (ChangesMonth ws (Message c.args.start.now c.args.message.now) ws) (sym c.number.ensures)
-          (message_unread ws c.args.start.now c.args.message.now 20 (omega arith) (unread_is c.args.start.now c.args.message.now 20 read)),
-      λ refused. refl,
-    )
-
-pub returns-in-FieldWrong : goal.returns-in-FieldWrong
-returns-in-FieldWrong c =
-    let ws = c.args.words.now in
-    let read = sym (ap shown_message c.in-FieldWrong.is) ∙ c.read.ensures in (
-      subst (ChangesMonth ws (Message c.args.start.now c.args.message.now) ws) (sym c.number-in-FieldWrong.ensures)
-          (message_unread ws c.args.start.now c.args.message.now 21 (omega arith) (unread_is c.args.start.now c.args.message.now 21 read)),
+pub returns-in-Err : goal.returns-in-Err
+returns-in-Err c =
+    let ws = c.args.words.now in (
+      subst (ChangesMonth ws (Message c.args.start.now c.args.message.now) ws) (sym c.from.ensures)
+          (message_unread ws c.args.start.now c.args.message.now (number_of c.in-Err.refusal) (omega (arith, numbered c.in-Err.refusal)) (sym c.in-Err.ensures)),
       λ refused. refl,
     )

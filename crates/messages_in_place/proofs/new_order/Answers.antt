@@ -4,28 +4,24 @@ use mathlib.Core.List.{[], ◌∷◌}
 use Rattle.rules.specs.declared.Event.{Event}
 use Rattle.rules.specs.Terms.{paper}
 use Rattle.rules.specs.Book.{after}
-use Rattle.fix_dates.specs.Answers.{shown_elapsed}
+use Rattle.fix_dates.specs.Answers.{timely}
 use Rattle.fix_events.proofs.Messages.{new_right}
 use Rattle.messages_in_place.specs.Internal.{new_at}
-use Rattle.messages_in_place.proofs.Messages.{said_unread, said-early, said_late, said-one}
+use Rattle.messages_in_place.proofs.Messages.{said-early, said_late, said-one}
 use borrow.Author.Rules.{rules}
 use Rattle.messages_in_place.proofs.new_order.Goals as goal
 
 pub returns-in-At : goal.returns-in-At
 returns-in-At c = (
-  said-one c.args.words.now (new_at c.args.order) (shown_elapsed c.args.when) (λ t. refl) (λ t calls is. new_right c.args.order.id c.args.order.side c.args.order.volume c.args.order.price t (after paper calls).running) _ c.add_of.result c.send.new.words c.send.result
-      (ap shown_elapsed c.in-At.is) (ap (λ (e : Event). e ∷ []) (sym c.add_of.ensures)) (c.send.ensures.0 c.add_of.result c.event_fields.ensures),
+  said-one c.args.words.now (new_at c.args.order) (timely c.args.when) (λ t. refl) (λ t calls is. new_right c.args.order.id c.args.order.side c.args.order.volume c.args.order.price t (after paper calls).running) _ c.add_of.result c.send.new.words c.send.result
+      (ap timely c.in-At.is) (ap (λ (e : Event). e ∷ []) (sym c.add_of.ensures)) (c.send.ensures.0 c.add_of.result c.event_fields.ensures),
   c.send.ensures.1,
 )
 
 pub returns-in-Before : goal.returns-in-Before
 returns-in-Before c =
-    (said-early c.args.words.now (new_at c.args.order) (shown_elapsed c.args.when) (λ t. refl) (λ t calls is. new_right c.args.order.id c.args.order.side c.args.order.volume c.args.order.price t (after paper calls).running) (ap shown_elapsed c.in-Before.is) c.none_open_or.result c.none_open_or.ensures, λ refused. refl)
+    (said-early c.args.words.now (new_at c.args.order) (timely c.args.when) (λ t. refl) (λ t calls is. new_right c.args.order.id c.args.order.side c.args.order.volume c.args.order.price t (after paper calls).running) (ap timely c.in-Before.is) c.none_open_or.result c.none_open_or.ensures, λ refused. refl)
 
 pub returns-in-Late : goal.returns-in-Late
 returns-in-Late c =
-    (said_late c.args.words.now (new_at c.args.order) (shown_elapsed c.args.when) (λ t. refl) (λ t calls is. new_right c.args.order.id c.args.order.side c.args.order.volume c.args.order.price t (after paper calls).running) (ap shown_elapsed c.in-Late.is) c.none_open_or-in-Late.result c.none_open_or-in-Late.ensures, λ refused. refl)
-
-pub returns-in-Unreadable : goal.returns-in-Unreadable
-returns-in-Unreadable c =
-    (said_unread c.args.words.now (new_at c.args.order) (shown_elapsed c.args.when) (ap shown_elapsed c.in-Unreadable.is) c.number.result c.number.ensures, λ refused. refl)
+    (said_late c.args.words.now (new_at c.args.order) (timely c.args.when) (λ t. refl) (λ t calls is. new_right c.args.order.id c.args.order.side c.args.order.volume c.args.order.price t (after paper calls).running) (ap timely c.in-Late.is) c.none_open_or-in-Late.result c.none_open_or-in-Late.ensures, λ refused. refl)

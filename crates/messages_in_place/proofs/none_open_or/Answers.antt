@@ -9,8 +9,8 @@ use Rattle.messages_in_place.proofs.none_open_or.Goals as goal
 
 pub returns-then-flag-eq0 : goal.returns-then-flag-eq0
 returns-then-flag-eq0 c =
-    c.number.ensures ∙ ap (λ (b : Bool). if b then 7 else number_of c.args.refusal) (sym (eq-eqb c.args.flag 0 c.if-flag-eq0.true))
+    c.from.ensures ∙ ap (λ (b : Bool). if b then 7 else number_of c.args.refusal) (sym (eq-eqb c.args.flag 0 c.if-flag-eq0.true))
 
 pub returns : goal.returns
 returns c =
-    c.number-2.ensures ∙ ap (λ (b : Bool). if b then 7 else number_of c.args.refusal) (sym (ne_eqb c.args.flag 0 c.if-flag-eq0.false))
+    c.from-2.ensures ∙ ap (λ (b : Bool). if b then 7 else number_of c.args.refusal) (sym (ne_eqb c.args.flag 0 c.if-flag-eq0.false))

@@ -7,7 +7,7 @@ use Rattle.messages_in_place.proofs.number_where.Goals as goal
 
 pub returns-then-applies : goal.returns-then-applies
 returns-then-applies c =
-    c.number.ensures ∙ ap (λ (b : Bool). number_where b c.args.refusal) (sym c.if-applies.true)
+    c.from.ensures ∙ ap (λ (b : Bool). number_where b c.args.refusal) (sym c.if-applies.true)
 
 pub returns : goal.returns
 returns c =

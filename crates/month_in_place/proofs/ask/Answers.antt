@@ -21,21 +21,21 @@ returns-then-words-eq0 c = (asks_none c.args.words.now c.args.a c.if-words-eq0.t
 pub amend-n-requires : goal.amend-n-requires
 amend-n-requires c =
     let ws = c.args.words.now in
-    let copied = c.copy.ensures in
+    let copied = c.copy_from_slice.ensures.after in
     (subst HoldsQuantum (sym copied) (holds_quantum ws c.requires.0), ap length copied ∙ length-take-le 598 (drop 6 ws) (omega (arith, length-drop 6 ws, c.requires.1)), c.requires.2, record { event = amend_of c.args.a; is = c.amend_fields.ensures }, ap (λ (x : Fields). x.kind) c.amend_fields.ensures)
 
 pub refusal_of-requires : goal.refusal_of-requires
 refusal_of-requires c =
     let ws = c.args.words.now in
     let so : StepsWords (take 598 (drop 6 ws)) (amend_of c.args.a) c.amend-n.new.words c.amend-n.result =
-    subst (λ (l : List ℕ). StepsWords l (amend_of c.args.a) c.amend-n.new.words c.amend-n.result) c.copy.ensures (c.amend-n.ensures.0 (amend_of c.args.a) c.amend_fields.ensures) in
+    subst (λ (l : List ℕ). StepsWords l (amend_of c.args.a) c.amend-n.new.words c.amend-n.result) c.copy_from_slice.ensures.after (c.amend-n.ensures.0 (amend_of c.args.a) c.amend_fields.ensures) in
     asks_numbered ws c.args.a c.if-words-eq0.false c.amend-n.new.words c.amend-n.result so c.requires.0 c.if-n-gt0.true
 
 pub returns-then-n-gt0 : goal.returns-then-n-gt0
 returns-then-n-gt0 c =
     let ws = c.args.words.now in
     let so : StepsWords (take 598 (drop 6 ws)) (amend_of c.args.a) c.amend-n.new.words c.amend-n.result =
-    subst (λ (l : List ℕ). StepsWords l (amend_of c.args.a) c.amend-n.new.words c.amend-n.result) c.copy.ensures (c.amend-n.ensures.0 (amend_of c.args.a) c.amend_fields.ensures) in (
+    subst (λ (l : List ℕ). StepsWords l (amend_of c.args.a) c.amend-n.new.words c.amend-n.result) c.copy_from_slice.ensures.after (c.amend-n.ensures.0 (amend_of c.args.a) c.amend_fields.ensures) in (
       asks_refused ws c.args.a c.if-words-eq0.false c.amend-n.new.words c.amend-n.result so c.refusal_of.result c.if-n-gt0.true c.refusal_of.ensures,
       λ n e. c.amend-n.ensures.1 c.if-n-gt0.true,
     )
@@ -44,7 +44,7 @@ pub preview-requires : goal.preview-requires
 preview-requires c =
     let ws = c.args.words.now in
     let so : StepsWords (take 598 (drop 6 ws)) (amend_of c.args.a) c.amend-n.new.words c.amend-n.result =
-    subst (λ (l : List ℕ). StepsWords l (amend_of c.args.a) c.amend-n.new.words c.amend-n.result) c.copy.ensures (c.amend-n.ensures.0 (amend_of c.args.a) c.amend_fields.ensures) in
+    subst (λ (l : List ℕ). StepsWords l (amend_of c.args.a) c.amend-n.new.words c.amend-n.result) c.copy_from_slice.ensures.after (c.amend-n.ensures.0 (amend_of c.args.a) c.amend_fields.ensures) in
     let held = asks_held ws c.args.a c.if-words-eq0.false c.amend-n.new.words c.amend-n.result so c.if-n-gt0.false c.requires.0 in
     (held, ap length held.is ∙ quantum_length held.quantum (quantum_sized held.quantum held.reached))
 
@@ -52,7 +52,7 @@ pub returns : goal.returns
 returns c =
     let ws = c.args.words.now in
     let so : StepsWords (take 598 (drop 6 ws)) (amend_of c.args.a) c.amend-n.new.words c.amend-n.result =
-    subst (λ (l : List ℕ). StepsWords l (amend_of c.args.a) c.amend-n.new.words c.amend-n.result) c.copy.ensures (c.amend-n.ensures.0 (amend_of c.args.a) c.amend_fields.ensures) in (
+    subst (λ (l : List ℕ). StepsWords l (amend_of c.args.a) c.amend-n.new.words c.amend-n.result) c.copy_from_slice.ensures.after (c.amend-n.ensures.0 (amend_of c.args.a) c.amend_fields.ensures) in (
       asks_shown ws c.args.a c.if-words-eq0.false c.amend-n.new.words c.amend-n.result so c.if-n-gt0.false c.wide-count.result c.preview.result c.wide-count.ensures c.preview.ensures,
       λ n e. absurd (not_refused _ n e),
     )

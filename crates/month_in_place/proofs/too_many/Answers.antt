@@ -8,4 +8,4 @@ use Rattle.month_in_place.proofs.too_many.Goals as goal
 pub returns : goal.returns
 returns c =
     let a = c.args in
-    ap (λ (n : ℕ). ltb 64 (n + c.wide-2.result)) c.wide.ensures.0 ∙ ap (λ (n : ℕ). ltb 64 (a.buys + n)) c.wide-2.ensures.0
+    ap (λ (n : ℕ). ltb 64 (n + c.from-2.result)) c.from.ensures ∙ ap (λ (n : ℕ). ltb 64 (a.buys + n)) c.from-2.ensures

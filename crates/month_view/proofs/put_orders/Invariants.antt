@@ -22,6 +22,3 @@ abbrev pub invariant-loop-i : goal.invariant-loop-i
 invariant-loop-i l =
     (l.i ≤ length l.ids) × (length l.into ≡ 4 * length l.ids) × ((k : Listed l.table l.ids) → l.into ≡ orders_words (take l.i k.live) ++ drop (4 * l.i) l.initial.into)
     × (l.buys ≤ l.i) × ((k : Listed l.table l.ids) → l.buys ≡ length (of_side Buy (take l.i k.live)))
-
-abbrev pub decreases-loop-i : goal.decreases-loop-i
-decreases-loop-i l = length l.ids - l.i

@@ -1,17 +1,13 @@
 -- By the kind and the number of bytes.
-use Rattle.month_words.proofs.Events.{is_long, says_amend, says_tick, says_add, says_cancel, says_deal, none_said}
+use Rattle.month_words.proofs.Events.{is_long, says_amend, says_tick, says_added, says_cancel, says_deal}
 use borrow.Author.Rules.{rules}
 use Rattle.month_words.proofs.event_in.Goals as goal
-
-pub returns-then-n-lt8 : goal.returns-then-n-lt8
-returns-then-n-lt8 c = none_said c.no_event.result _ c.no_event.ensures
 
 pub amend_in-requires : goal.amend_in-requires
 amend_in-requires c = is_long c.args.bytes.now c.word-kind.result 3 20 c.if-kind-n.true
 
 pub returns-then-kind-n : goal.returns-then-kind-n
 returns-then-kind-n c =
-    λ h.
     says_amend c.args.bytes.now c.amend_in.result c.word-kind.result c.word-kind.ensures c.if-kind-n.true c.amend_in.ensures
 
 pub tick_in-requires : goal.tick_in-requires
@@ -19,7 +15,6 @@ tick_in-requires c = is_long c.args.bytes.now c.word-kind.result 6 8 c.if-kind-n
 
 pub returns-then-kind-n-2 : goal.returns-then-kind-n-2
 returns-then-kind-n-2 c =
-    λ h.
     says_tick c.args.bytes.now c.tick_in.result c.word-kind.result c.word-kind.ensures c.if-kind-n-2.true c.tick_in.ensures
 
 pub add_in-requires : goal.add_in-requires
@@ -27,15 +22,13 @@ add_in-requires c = is_long c.args.bytes.now c.word-kind.result 2 24 c.if-kind-n
 
 pub returns-then-kind-n-3 : goal.returns-then-kind-n-3
 returns-then-kind-n-3 c =
-    λ h.
-    says_add c.args.bytes.now c.add_in.result c.word-kind.result c.word-kind.ensures c.if-kind-n-3.true (c.add_in.ensures h)
+    says_added c.args.bytes.now c.word-kind.result c.word-kind.ensures c.if-kind-n-3.true c.add_in.result c.add_in.ensures
 
 pub cancel_in-requires : goal.cancel_in-requires
 cancel_in-requires c = is_long c.args.bytes.now c.word-kind.result 4 12 c.if-kind-n-4.true
 
 pub returns-then-kind-n-4 : goal.returns-then-kind-n-4
 returns-then-kind-n-4 c =
-    λ h.
     says_cancel c.args.bytes.now c.cancel_in.result c.word-kind.result c.word-kind.ensures c.if-kind-n-4.true c.cancel_in.ensures
 
 pub deal_in-requires : goal.deal_in-requires
@@ -43,8 +36,4 @@ deal_in-requires c = is_long c.args.bytes.now c.word-kind.result 5 16 c.if-kind-
 
 pub returns-then-kind-n-5 : goal.returns-then-kind-n-5
 returns-then-kind-n-5 c =
-    λ h.
     says_deal c.args.bytes.now c.deal_in.result c.word-kind.result c.word-kind.ensures c.if-kind-n-5.true c.deal_in.ensures
-
-pub returns : goal.returns
-returns c = none_said c.no_event-2.result _ c.no_event-2.ensures

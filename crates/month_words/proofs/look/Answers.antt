@@ -1,7 +1,9 @@
 -- The cell or the refusal, with the answer's words.
+use Rattle.std.proofs.Common.{Result}
 use Prim.Native.Nat.{ℕ}
 use mathlib.Core.Path.{ap, subst, ◌∙◌}
-use Rattle.rules.specs.declared.Looked.{Looked}
+use Rattle.rules.specs.declared.Refusal.{Refusal}
+use Rattle.rules.specs.declared.CellView.{CellView}
 use Rattle.rules.specs.Answers.{refused, shown_looked}
 use Rattle.rules.specs.Calls.{Look}
 use Rattle.answer_words.specs.Words.{answer_words}
@@ -10,15 +12,15 @@ use Rattle.month_words.proofs.Events.{shows_words}
 use borrow.Author.Rules.{rules}
 use Rattle.month_words.proofs.look.Goals as goal
 
-pub returns-in-Found : goal.returns-in-Found
-returns-in-Found c =
+pub returns-in-Ok : goal.returns-in-Ok
+returns-in-Ok c =
     let a = c.args in
     shows_words a.words.now (Look a.day a.expiry a.quantum) _ c.put_cell.new.answer
-    (subst (λ (l : Looked). ShowsMonth a.words.now (Look a.day a.expiry a.quantum) (shown_looked l)) c.in-Found.is c.look-looked.ensures) c.put_cell.ensures
+    (subst (λ (l : Result CellView Refusal). ShowsMonth a.words.now (Look a.day a.expiry a.quantum) (shown_looked l)) c.in-Ok.is c.look-looked.ensures) c.put_cell.ensures
 
-pub returns-in-Refused : goal.returns-in-Refused
-returns-in-Refused c =
+pub returns-in-Err : goal.returns-in-Err
+returns-in-Err c =
     let a = c.args in
     shows_words a.words.now (Look a.day a.expiry a.quantum) _ c.put_refused.new.answer
-    (subst (λ (l : Looked). ShowsMonth a.words.now (Look a.day a.expiry a.quantum) (shown_looked l)) c.in-Refused.is c.look-looked.ensures)
-    (c.put_refused.ensures ∙ ap (λ (n : ℕ). answer_words (refused n)) c.number.ensures)
+    (subst (λ (l : Result CellView Refusal). ShowsMonth a.words.now (Look a.day a.expiry a.quantum) (shown_looked l)) c.in-Err.is c.look-looked.ensures)
+    (c.put_refused.ensures ∙ ap (λ (n : ℕ). answer_words (refused n)) c.from.ensures)

@@ -15,7 +15,7 @@ returns c =
     let a = c.args in
     let p = c.requires in
     let found = c.place_in-found.ensures in
-    let place = c.one_less.ensures ∙ ap (λ (n : ℕ). n - 1) found in
+    let place = c.saturating_sub.ensures ∙ ap (λ (n : ℕ). n - 1) found in
     let over = room_over a.count c.room-to.result c.room-to.ensures in
     let most = room_most a.count c.room-to.result p.1 c.room-to.ensures in
     c.close_up.ensures

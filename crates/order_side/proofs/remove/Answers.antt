@@ -22,7 +22,7 @@ returns c =
     record {
       words = λ slots level few h is.
           let n = count_is w slots level few is in
-          removed_is slots level a.place c.one_less-rest.result few (omega (arith, c.one_less-rest.ensures)) (omega (arith, c.one_less-rest.ensures)) w c.shift.new.column c.shift-2.new.column c.shift-3.new.column is
+          removed_is slots level a.place c.saturating_sub-rest.result few (omega (arith, c.saturating_sub-rest.ensures)) (omega (arith, c.saturating_sub-rest.ensures)) w c.shift.new.column c.shift-2.new.column c.shift-3.new.column is
           c.shift.ensures c.shift-2.ensures c.shift-3.ensures;
       answers = λ slots level few h is.
           read_change a.place w c.requires.2 a.side c.order_at-order.result c.order_at-order.ensures slots level c.key_in.result 0 0 few is c.key_in.ensures;

@@ -1,6 +1,6 @@
 -- The calls' answers are those of the definition, whatever events the duty and the clock represent.
 use native.Mathlib.Omega.{arith}
-use mathlib.Core.Path.{◌∙◌}
+use mathlib.Core.Path.{refl, ◌∙◌}
 use borrow.Author.Rules.{rules}
 use Rattle.outlook.specs.Represents.{Outlooked}
 use Rattle.outlook.specs.Internal.{Sound}
@@ -37,8 +37,8 @@ returns c = λ row opening es s.
       full_is = c.needed.ensures;
       within_is = c.within_lapse_limit-within.ensures;
       waits_is = c.within_lapse_limit-waits.ensures;
-      possible_is = c.both-possible.ensures;
+      possible_is = refl;
     })
-    c.less.result c.by-by.result c.full.result c.lapses_left.result c.is_never.result c.weight_keeping.result
-    c.less.ensures c.by-by.ensures c.full.ensures c.lapses_left.ensures c.is_never.ensures c.weight_keeping.ensures
+    c.saturating_sub.result c.by-by.result c.full.result c.lapses_left.result c.is_never.result c.weight_keeping.result
+    c.saturating_sub.ensures c.by-by.ensures c.full.ensures c.lapses_left.ensures c.is_never.ensures c.weight_keeping.ensures
     ∙ worked_is row opening es a.duty a.clock a.share a.allowed s

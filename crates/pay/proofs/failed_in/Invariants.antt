@@ -1,12 +1,9 @@
--- The invariant: the count is that of the days passed, at most one for each.
-use Prim.Native.Nat.{◌-◌, ◌≤◌}
-use mathlib.Core.Path.{◌≡◌}
+-- The count is that of the days passed, at most one for each.
+use Rattle.std.proofs.Common.{◌≡◌, ◌≤◌, List}
+use Rattle.rules.specs.declared.Cell.{Cell}
 use Rattle.pay.proofs.Series.{failed_before}
 use Rattle.pay.proofs.failed_in.Given as goal
 
 abbrev pub invariant-loop-day : goal.invariant-loop-day
-invariant-loop-day l =
-    (l.day ≤ 31) × (l.count ≡ failed_before l.cells l.expiry l.quantum l.day) × (l.count ≤ l.day)
-
-abbrev pub decreases-loop-day : goal.decreases-loop-day
-decreases-loop-day l = 31 - l.day
+invariant-loop-day g l =
+    (l.day ≤ 31) × ((cells : List Cell) → g.M.MonthCells.holds l.month cells → l.count ≡ failed_before cells l.expiry l.quantum l.day) × (l.count ≤ l.day)

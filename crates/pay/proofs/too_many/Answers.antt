@@ -1,48 +1,24 @@
--- The invariant: no count passed is above 15.
-use Prim.Native.Nat.{◌+◌}
-use mathlib.Core.Path.{◌≡◌, sym, ap, ◌∙◌}
-use mathlib.Core.Bool.{true, false}
-use native.Mathlib.Omega.{arith}
-use borrow.Author.Rules.{rules}
-use borrow.Author.Tests.{lt-ltb, le-ltb}
-use lib.ListN.{length, get_or}
-use lib.Seq.{take_all}
+-- The call and the definition are true alike: where some count is above 15.
+use Rattle.std.proofs.Common.{ℕ, ◌<◌, ◌≤◌, Bool, true, false, List, length, Decides, MatchBool, refl, arith, rules, tests}
+use Rattle.std.specs.List.{HoldsAt, AllWithin}
+use Rattle.std.proofs.lemmas.Iterator.{cases_from_any, YieldsList-from_slice}
+use Rattle.std.proofs.lemmas.Bool.{false≢true}
+use Rattle.std.proofs.lemmas.Bool.Decides.{same_from_decides, Decides-by_or, Decides-ltb}
 use Rattle.lists.specs.Lists.{any}
-use Rattle.pay.proofs.Series.{over, any-front, any-early}
+use Rattle.pay.proofs.Series.{over}
 use Rattle.pay.proofs.too_many.Goals as goal
 
-pub returns-then-counts-i-gt15 : goal.returns-then-counts-i-gt15
-returns-then-counts-i-gt15 c =
-    let long : length c.args.counts ≡ 6 = search rules in
-    let l = c.loop-i in
-    let n : length c.args.counts ≡ 6 = long in
-    let here = lt-ltb 15 (get_or c.args.counts l.i 0) c.if-counts-i-gt15.true in
-    sym (any-early over c.args.counts (l.i + 1) (any-front over c.args.counts l.i 0 true (omega arith) l.invariant.1 here))
+abbrev HasOver : List ℕ → Type 0
+HasOver xs = (k : ℕ) × (k < length xs) × HoldsAt (λ x. 15 < x) xs k
 
-pub loop-i-preserved : goal.loop-i-preserved
-loop-i-preserved c =
-    let long : length c.args.counts ≡ 6 = search rules in
-    let l = c.loop-i in
-    let n : length c.args.counts ≡ 6 = long in
-    let here = le-ltb 15 (get_or c.args.counts l.i 0) c.if-counts-i-gt15.false in
-    (omega arith, any-front over c.args.counts l.i 0 false (omega arith) l.invariant.1 here)
+Decides-from_cases : (r : Bool) (xs : List ℕ) → MatchBool r (HasOver xs) (AllWithin (λ x. x ≤ 15) xs 0 (length xs)) → Decides r (HasOver xs)
+Decides-from_cases true xs h = (λ _. h, λ _. refl)
+Decides-from_cases false xs h = (λ e. absurd (false≢true e), λ w. absurd (omega (arith, h w.0 0 (omega arith) w.1, w.2 0)))
 
 pub returns : goal.returns
-returns c =
-    let long : length c.args.counts ≡ 6 = search rules in
-    let l = c.loop-i in
-    let n : length c.args.counts ≡ 6 = long in
-    sym (ap (any over) (sym (take_all l.i c.args.counts (omega arith))) ∙ l.invariant.1)
-
-pub offset_bounds-counts-i : goal.offset_bounds-counts-i
-offset_bounds-counts-i c = omega arith
-
-pub overflow_add-i : goal.overflow_add-i
-overflow_add-i c = omega arith
-
-pub loop-i-smaller : goal.loop-i-smaller
-loop-i-smaller c = omega arith
-
-pub loop-i-init : goal.loop-i-init
 unfolding any
-loop-i-init c = search rules
+returns c =
+    let xs = c.args.counts in
+    let by_call = cases_from_any _ _ _ (λ x. 15 < x) (λ x. x ≤ 15) c.any.ensures.ran (YieldsList-from_slice xs cc) (λ x q k. search (rules, tests)) (λ x q k. search (rules, tests)) in
+    let by_spec = Decides-by_or over (λ x. 15 < x) (any over) (Decides-ltb 15) refl (λ _ _. refl) xs in
+    same_from_decides _ (any over xs) (Decides-from_cases _ xs by_call) by_spec

@@ -1,5 +1,4 @@
 -- Which keys are there, then D against 1 and the limit.
-use borrow.Author.Rules.{rules}
 use Rattle.price_keys.proofs.Spread.{state_no_bid, state_no_ask, state_crossed, state_wide, state-kept}
 use Rattle.price_keys.proofs.keys_state.Goals as goal
 

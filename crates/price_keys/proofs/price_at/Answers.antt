@@ -1,6 +1,5 @@
 -- `price_keys::price_at` meets its contract: a key fits 32 bits with a sign, and so does its price.
 use mathlib.Core.Path.{sym, ap, ◌∙◌}
-use borrow.Author.Rules.{rules}
 use Rattle.rules.specs.declared.Side.{Side}
 use Rattle.rules.specs.Units.{steps}
 use Rattle.price_keys.specs.Keys.{price_at}

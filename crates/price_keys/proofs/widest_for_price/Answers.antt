@@ -1,7 +1,6 @@
 -- `price_keys::widest_for_price` meets its contract: a is at most 100,000, so that the product fits 64 bits and the quotient is at most the price.
 use native.Mathlib.Nat.{mul-le-mul_right}
 use native.Mathlib.Omega.{arith}
-use borrow.Author.Rules.{rules}
 use Rattle.price_keys.specs.Widest.{widest_of}
 use Rattle.price_keys.proofs.widest_for_price.Goals as goal
 
@@ -10,10 +9,6 @@ overflow_mul-part c = record { fits = omega (arith, c.positive_part-price.type_i
 
 pub overflow_cast-part-3 : goal.overflow_cast-part-3
 overflow_cast-part-3 c = record { fits = omega (arith, c.positive_part-price.type_inv, mul-le-mul_right c.positive_part-price.result c.requires) }
-
-pub returns-then-part-b : goal.returns-then-part-b
-unfolding widest_of
-returns-then-part-b c = rw (← c.positive_part-price.ensures) (omega arith)
 
 pub returns : goal.returns
 unfolding widest_of

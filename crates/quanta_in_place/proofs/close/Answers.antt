@@ -13,12 +13,12 @@ use borrow.Author.Rules.{rules}
 use Rattle.quanta_in_place.proofs.close.Goals as goal
 
 pub returns-then-not-both_charges : goal.returns-then-not-both_charges
-returns-then-not-both_charges c = let a = c.args in close_out a.words.now a.active a.passive c.number.result c.number.ensures (sym c.both_charges.ensures ∙ not-true _ c.if-not-both_charges.true-raw)
+returns-then-not-both_charges c = let a = c.args in close_out a.words.now a.active a.passive c.from.result c.from.ensures (sym c.both_charges.ensures ∙ not-true _ c.if-not-both_charges.true-raw)
 
 pub returns-then-words-eq0 : goal.returns-then-words-eq0
 returns-then-words-eq0 c =
     let good : good_charges paper c.args.active c.args.passive ≡ true = sym c.both_charges.ensures ∙ not-false _ c.if-not-both_charges.false-raw in
-    let a = c.args in close_none a.words.now a.active a.passive c.number-then-words-eq0.result c.number-then-words-eq0.ensures (good) c.if-words-eq0.true
+    let a = c.args in close_none a.words.now a.active a.passive c.from-then-words-eq0.result c.from-then-words-eq0.ensures (good) c.if-words-eq0.true
 
 pub ended-totals-requires : goal.ended-totals-requires
 ended-totals-requires c = close_onward c.args.words.now c.duty_in-duty.result c.clock_in-clock.result c.duty_in-duty.ensures c.clock_in-clock.ensures c.requires.0

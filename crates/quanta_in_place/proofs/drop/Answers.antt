@@ -4,7 +4,7 @@ use borrow.Author.Rules.{rules}
 use Rattle.quanta_in_place.proofs.drop.Goals as goal
 
 pub returns-then-words-eq0 : goal.returns-then-words-eq0
-returns-then-words-eq0 c = drop_none c.args.words.now c.number.result c.number.ensures c.if-words-eq0.true
+returns-then-words-eq0 c = drop_none c.args.words.now c.from.result c.from.ensures c.if-words-eq0.true
 
 pub forget-requires : goal.forget-requires
 forget-requires c = c.requires.1

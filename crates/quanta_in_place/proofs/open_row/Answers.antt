@@ -20,7 +20,7 @@ returns-then-not-both c =
     let tested : c.both.result ≡ (within 1 31 c.args.day && good_settlement c.args.opening.spread) = c.both.ensures ∙ λ i. c.between.ensures i && c.settlement.ensures i in
     λ words seven is.
     let a = c.args in
-    open_out a.words.now words a.row a.day a.opening (record { seven = seven; is = is; good = c.requires.2 }) c.number.result c.number.ensures
+    open_out a.words.now words a.row a.day a.opening (record { seven = seven; is = is; good = c.requires.2 }) c.from.result c.from.ensures
     (sym (tested) ∙ not-true _ c.if-not-both.true-raw)
 
 pub place_of-place-requires : goal.place_of-place-requires
@@ -52,8 +52,8 @@ returns-then-cell c =
     sym (tested) ∙ not-false _ c.if-not-both.false-raw in
     λ words seven is.
     let a = c.args in
-    open_full a.words.now words a.row a.day a.opening (record { seven = seven; is = is; good = c.requires.2 }) c.number-then-cell.result (good) c.place_of-place.result c.place_of-place.ensures
-    c.at-cell.result c.at-cell.ensures c.number-then-cell.ensures c.if-cell.true
+    open_full a.words.now words a.row a.day a.opening (record { seven = seven; is = is; good = c.requires.2 }) c.from-then-cell.result (good) c.place_of-place.result c.place_of-place.ensures
+    c.at-cell.result c.at-cell.ensures c.from-then-cell.ensures c.if-cell.true
 
 pub returns-then-words-ne0 : goal.returns-then-words-ne0
 returns-then-words-ne0 c =
@@ -62,8 +62,8 @@ returns-then-words-ne0 c =
     sym (tested) ∙ not-false _ c.if-not-both.false-raw in
     λ words seven is.
     let a = c.args in
-    open_on a.words.now words a.row a.day a.opening (record { seven = seven; is = is; good = c.requires.2 }) c.number-then-words-ne0.result (good) c.place_of-place.result c.place_of-place.ensures
-    c.at-cell.result c.at-cell.ensures c.if-cell.false c.number-then-words-ne0.ensures c.if-words-ne0.true
+    open_on a.words.now words a.row a.day a.opening (record { seven = seven; is = is; good = c.requires.2 }) c.from-then-words-ne0.result (good) c.place_of-place.result c.place_of-place.ensures
+    c.at-cell.result c.at-cell.ensures c.if-cell.false c.from-then-words-ne0.ensures c.if-words-ne0.true
 
 pub returns-then-not-lapse_limit : goal.returns-then-not-lapse_limit
 returns-then-not-lapse_limit c =
@@ -72,8 +72,8 @@ returns-then-not-lapse_limit c =
     sym (tested) ∙ not-false _ c.if-not-both.false-raw in
     λ words seven is.
     let a = c.args in
-    open_unlimited a.words.now words a.row a.day a.opening (record { seven = seven; is = is; good = c.requires.2 }) c.number-then-not-lapse_limit.result (good) c.place_of-place.result c.place_of-place.ensures
-    c.at-cell.result c.at-cell.ensures c.if-cell.false c.if-words-ne0.false c.number-then-not-lapse_limit.ensures (sym c.lapse_limit.ensures ∙ not-true _ c.if-not-lapse_limit.true-raw)
+    open_unlimited a.words.now words a.row a.day a.opening (record { seven = seven; is = is; good = c.requires.2 }) c.from-then-not-lapse_limit.result (good) c.place_of-place.result c.place_of-place.ensures
+    c.at-cell.result c.at-cell.ensures c.if-cell.false c.if-words-ne0.false c.from-then-not-lapse_limit.ensures (sym c.lapse_limit.ensures ∙ not-true _ c.if-not-lapse_limit.true-raw)
 
 pub returns-then-not-in_range : goal.returns-then-not-in_range
 returns-then-not-in_range c =
@@ -82,8 +82,8 @@ returns-then-not-in_range c =
     sym (tested) ∙ not-false _ c.if-not-both.false-raw in
     λ words seven is.
     let a = c.args in
-    open_strikes a.words.now words a.row a.day a.opening (record { seven = seven; is = is; good = c.requires.2 }) c.number-then-not-in_range.result (good) c.place_of-place.result c.place_of-place.ensures
-    c.at-cell.result c.at-cell.ensures c.if-cell.false c.if-words-ne0.false (sym c.lapse_limit.ensures ∙ not-false _ c.if-not-lapse_limit.false-raw) c.number-then-not-in_range.ensures (sym c.in_range.ensures ∙ not-true _ c.if-not-in_range.true-raw)
+    open_strikes a.words.now words a.row a.day a.opening (record { seven = seven; is = is; good = c.requires.2 }) c.from-then-not-in_range.result (good) c.place_of-place.result c.place_of-place.ensures
+    c.at-cell.result c.at-cell.ensures c.if-cell.false c.if-words-ne0.false (sym c.lapse_limit.ensures ∙ not-false _ c.if-not-lapse_limit.false-raw) c.from-then-not-in_range.ensures (sym c.in_range.ensures ∙ not-true _ c.if-not-in_range.true-raw)
 
 pub overflow_cast-place : goal.overflow_cast-place
 overflow_cast-place c =

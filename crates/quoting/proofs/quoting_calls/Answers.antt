@@ -1,7 +1,7 @@
 -- The list that runs, or the refusal.
 use mathlib.Core.Path.{refl}
-use Rattle.quoting.proofs.Lists.{list_long, list_short, list_answered}
-use borrow.Author.Rules.{rules}
+use Rattle.std.specs.Prelude.{Ok, Err}
+use Rattle.quoting.proofs.Lists.{list_long, list_answered}
 use Rattle.quoting.proofs.quoting_calls.Goals as goal
 
 pub returns-then-calls-ge17179869184 : goal.returns-then-calls-ge17179869184
@@ -9,12 +9,12 @@ returns-then-calls-ge17179869184 c =
     let a = c.args in
     list_long a.calls.now a.answers.now c.refused.result c.if-calls-ge17179869184.true c.refused.ensures
 
-pub returns-then-not-list : goal.returns-then-not-list
-returns-then-not-list c =
+pub returns-in-Ok : goal.returns-in-Ok
+returns-in-Ok c =
     let a = c.args in
-    list_short a.calls.now a.answers.now c.refused-then-not-list.result c.if-calls-ge17179869184.false c.run-list.new.answers c.run-list.result c.run-list.ensures c.if-not-list.true c.refused-then-not-list.ensures
+    list_answered a.calls.now a.answers.now _ c.if-calls-ge17179869184.false c.run.new.answers c.run.result c.run.ensures (Ok c.in-Ok.list) c.in-Ok.is refl
 
-pub returns : goal.returns
-returns c =
+pub returns-in-Err : goal.returns-in-Err
+returns-in-Err c =
     let a = c.args in
-    list_answered a.calls.now a.answers.now c.run-list.result.calls c.if-calls-ge17179869184.false c.run-list.new.answers c.run-list.result c.run-list.ensures c.if-not-list.false refl
+    list_answered a.calls.now a.answers.now _ c.if-calls-ge17179869184.false c.run.new.answers c.run.result c.run.ensures _ c.in-Err.is c.refused-in-Err.ensures

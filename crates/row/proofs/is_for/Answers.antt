@@ -23,4 +23,4 @@ compared expiry quantum table k =
 pub returns : goal.returns
 returns c =
     let a = c.args in
-    c.both.ensures ∙ compared a.expiry a.quantum a.table.now a.k
+    compared a.expiry a.quantum a.table.now a.k

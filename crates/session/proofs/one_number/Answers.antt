@@ -2,5 +2,5 @@
 use Rattle.session.proofs.Endings.{refused_is}
 use Rattle.session.proofs.one_number.Goals as goal
 
-pub returns-in-Refused : goal.returns-in-Refused
-returns-in-Refused c = refused_is c.args.answer _ _ c.refused_at.result c.in-Refused.is c.refused_at.ensures
+pub returns-in-Err : goal.returns-in-Err
+returns-in-Err c = refused_is c.args.answer _ c.refused_at.result c.in-Err.is c.refused_at.ensures

@@ -1,19 +1,45 @@
 -- Refused, too long for the buffer, or written by the second pass.
+use Rattle.std.proofs.Common.{rules, Result, Err, Ok}
 use native.Mathlib.Omega.{arith}
+use mathlib.Core.Path.{◌≡◌, sym, subst}
+use lib.ListN.{length}
 use Rattle.rules.specs.Terms.{paper}
-use Rattle.rules.specs.Accounts.{account}
+use Rattle.rules.specs.Accounts.{account, account_ran}
+use Rattle.rules.specs.declared.Stopped.{Stopped}
+use Rattle.session_account.specs.declared.Accounted.{Accounted}
+use Rattle.session_account.specs.Shown.{shown_account}
 use Rattle.session_account.proofs.Endings.{ends_refused, ends_short, ends_written}
 use Rattle.session_account.proofs.passes.Goals as goal
 
-pub returns-then-buffer-filled : goal.returns-then-buffer-filled
-returns-then-buffer-filled c =
-    let p = ends_short (account paper c.args.most c.args.row.now c.args.spread c.args.records.now) _ _ c.pass-first.result c.pass-first.ensures c.args.buffer.now _ _ c.in-Finished.is (omega (arith, c.filled.ensures)) in record { answer = p.0; words = p.1 }
+pub returns-in_err-first-clause-answer : goal.returns-in_err-first-clause-answer
+returns-in_err-first-clause-answer c =
+    let a = c.args in
+    let same : c.from_residual.result ≡ Err c.in_err-first.field-0.0 = search rules in
+    subst (λ (r : Result Accounted Stopped). shown_account r ≡ account_ran (length a.buffer.now) (account paper a.most a.row.now a.spread a.records.now)) (sym same)
+    (ends_refused (account paper a.most a.row.now a.spread a.records.now) _ _ a.buffer.now c.in_err-first.field-0.0 c.in_err-first.ensures).0
 
-pub returns-in-Refused : goal.returns-in-Refused
-returns-in-Refused c =
-    let p = ends_refused (account paper c.args.most c.args.row.now c.args.spread c.args.records.now) _ _ c.pass-first.result c.pass-first.ensures c.args.buffer.now _ _ c.in-Refused.is in record { answer = p.0; words = p.1 }
+pub returns-in_err-first-clause-words : goal.returns-in_err-first-clause-words
+returns-in_err-first-clause-words c =
+    let a = c.args in
+    (ends_refused (account paper a.most a.row.now a.spread a.records.now) _ _ a.buffer.now c.in_err-first.field-0.0 c.in_err-first.ensures).1
 
-pub returns-else-buffer-filled : goal.returns-else-buffer-filled
-returns-else-buffer-filled c =
-    let p = ends_written (account paper c.args.most c.args.row.now c.args.spread c.args.records.now) _ _ c.pass-first.result c.pass-first.ensures c.args.buffer.now _ _ c.in-Finished.is _ c.pass.result
-    (omega (arith, c.filled.ensures)) c.pass.ensures in record { answer = p.0; words = p.1 }
+pub returns-then-buffer-first-clause-answer : goal.returns-then-buffer-first-clause-answer
+returns-then-buffer-first-clause-answer c =
+    let a = c.args in
+    subst (λ (r : Result Accounted Stopped). shown_account r ≡ account_ran (length a.buffer.now) (account paper a.most a.row.now a.spread a.records.now)) (sym c.refused.ensures)
+    (ends_short (account paper a.most a.row.now a.spread a.records.now) _ _ a.buffer.now c.in_ok-first.first c.in_ok-first.ensures c.if-buffer-first.true).0
+
+pub returns-then-buffer-first-clause-words : goal.returns-then-buffer-first-clause-words
+returns-then-buffer-first-clause-words c =
+    let a = c.args in
+    (ends_short (account paper a.most a.row.now a.spread a.records.now) _ _ a.buffer.now c.in_ok-first.first c.in_ok-first.ensures c.if-buffer-first.true).1
+
+pub returns-clause-answer : goal.returns-clause-answer
+returns-clause-answer c =
+    let a = c.args in
+    (ends_written (account paper a.most a.row.now a.spread a.records.now) _ _ a.buffer.now c.in_ok-first.first c.in_ok-first.ensures c.pass-2.new.buffer c.pass-2.result (omega (arith, c.if-buffer-first.false)) c.pass-2.ensures).0
+
+pub returns-clause-words : goal.returns-clause-words
+returns-clause-words c =
+    let a = c.args in
+    (ends_written (account paper a.most a.row.now a.spread a.records.now) _ _ a.buffer.now c.in_ok-first.first c.in_ok-first.ensures c.pass-2.new.buffer c.pass-2.result (omega (arith, c.if-buffer-first.false)) c.pass-2.ensures).1

@@ -1,30 +1,37 @@
--- Each answer by its law.
-use mathlib.Core.Path.{sym, ◌∙◌}
-use Rattle.rules.specs.Records.{signed_of}
-use Rattle.words.proofs.Complement.{signed_fits}
-use Rattle.sigma.proofs.Changes.{zero_is, rise_is, fall_is}
-use borrow.Author.Rules.{rules}
+-- By the tests of the previous price and of the R.
+use native.Mathlib.Omega.{arith}
+use mathlib.Core.Path.{◌≡◌, refl, ap, ◌∙◌}
+use lib.IntN.{nat_abs}
+use Rattle.std.proofs.lemmas.Int.{ints}
+use Rattle.sigma.specs.Changes.{change_of}
+use Rattle.sigma.proofs.Changes.{zero_is, beyond_is, change_is, above_zero, divides, held, narrow}
 use Rattle.sigma.proofs.change_of.Goals as goal
 
-pub returns-then-over-eq0 : goal.returns-then-over-eq0
-returns-then-over-eq0 c =
-    zero_is (signed_of c.args.previous) (signed_of c.args.price) (signed_fits c.args.previous c.ranges.previous.fits)
-    (signed_fits c.args.price c.ranges.price.fits) (sym c.magnitude-over.ensures.0 ∙ c.if-over-eq0.true)
+pub returns-then-previous-eq0 : goal.returns-then-previous-eq0
+returns-then-previous-eq0 c = zero_is c.args.previous c.args.price (omega (arith, ints))
 
-pub returns-then-from-to : goal.returns-then-from-to
-returns-then-from-to c =
-    let m = c.magnitude-over in
-    c.rise.ensures
-    ∙ rise_is (signed_of c.args.previous) (signed_of c.args.price) (signed_fits c.args.previous c.ranges.previous.fits)
-    (signed_fits c.args.price c.ranges.price.fits) m.result c.lift-from.result
-    c.lift-to.result c.size.result m.ensures.0 c.lift-from.ensures.0
-    c.lift-to.ensures.0 c.if-over-eq0.false c.if-from-to.true c.size.ensures
+pub nonzero_div-r : goal.nonzero_div-r
+nonzero_div-r c =
+    divides c.args.previous c.args.price c.ranges.previous c.ranges.price c.if-previous-eq0.false _ _ _ _ c.from.ensures c.from-2.ensures
+    c.unsigned_abs.ensures.value c.from-3.ensures
+
+pub returns-then-unsigned_abs-gt1000000 : goal.returns-then-unsigned_abs-gt1000000
+returns-then-unsigned_abs-gt1000000 c =
+    let a = c.args in
+    let r =
+    held a.previous a.price c.ranges.previous c.ranges.price c.if-previous-eq0.false _ _ _ _ c.from.ensures c.from-2.ensures
+    c.unsigned_abs.ensures.value c.from-3.ensures in
+    let size : c.unsigned_abs-2.result ≡ nat_abs (change_of a.previous a.price) = c.unsigned_abs-2.ensures.value ∙ ap nat_abs r in
+    beyond_is a.previous a.price (change_of a.previous a.price)
+    (above_zero a.previous a.price c.ranges.previous c.ranges.price c.if-previous-eq0.false) refl (omega arith)
 
 pub returns : goal.returns
 returns c =
-    let m = c.magnitude-over in
-    c.fall.ensures
-    ∙ fall_is (signed_of c.args.previous) (signed_of c.args.price) (signed_fits c.args.previous c.ranges.previous.fits)
-    (signed_fits c.args.price c.ranges.price.fits) m.result c.lift-from.result
-    c.lift-to.result c.size-2.result m.ensures.0 c.lift-from.ensures.0
-    c.lift-to.ensures.0 c.if-over-eq0.false c.if-from-to.false c.size-2.ensures
+    let a = c.args in
+    let r =
+    held a.previous a.price c.ranges.previous c.ranges.price c.if-previous-eq0.false _ _ _ _ c.from.ensures c.from-2.ensures
+    c.unsigned_abs.ensures.value c.from-3.ensures in
+    let size : c.unsigned_abs-2.result ≡ nat_abs (change_of a.previous a.price) = c.unsigned_abs-2.ensures.value ∙ ap nat_abs r in
+    rw r (rw (narrow (change_of a.previous a.price) (omega arith))
+    (change_is a.previous a.price (change_of a.previous a.price)
+    (above_zero a.previous a.price c.ranges.previous c.ranges.price c.if-previous-eq0.false) refl (omega arith)))

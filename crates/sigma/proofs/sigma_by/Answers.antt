@@ -1,32 +1,49 @@
--- By the three answers in turn.
-use Rattle.sigma.proofs.Last.{by_first, by_second, by_third, by_all, small}
-use borrow.Author.Rules.{rules}
+-- By the three R in turn.
+use mathlib.Core.Path.{ap, ◌∙◌}
+use Rattle.std.proofs.Common.{Some}
+use Rattle.sigma.proofs.Changes.{by_told, passed, passed_on}
+use Rattle.sigma.proofs.Last.{by_first, by_second, by_third, by_all}
 use Rattle.sigma.proofs.sigma_by.Goals as goal
 
-pub returns-in_default : goal.returns-in_default
-returns-in_default c = let a = c.args in by_first a.first a.second a.third c.in_default.is
-
-pub returns-in_default-second : goal.returns-in_default-second
-returns-in_default-second c =
+pub returns-in_err-first : goal.returns-in_err-first
+returns-in_err-first c =
     let a = c.args in
-    by_second a.first a.second a.third c.in-By.is c.in_default-second.is
+    let f = c.ranges in
+    c.from_residual.ensures ∙ by_first a.p a.q a.r a.s (passed a.p a.q f.p f.q c.in_err-first.ensures)
 
-pub returns-in_default-third : goal.returns-in_default-third
-returns-in_default-third c =
+pub returns-in_err-second : goal.returns-in_err-second
+returns-in_err-second c =
     let a = c.args in
-    by_third a.first a.second a.third c.in-By.is c.in-By-second.is
-    c.in_default-third.is
+    let f = c.ranges in
+    c.from_residual-in_err-second.ensures
+    ∙ by_second a.p a.q a.r a.s _ (passed a.p a.q f.p f.q c.in_ok-first.ensures) (passed a.q a.r f.q f.r c.in_err-second.ensures)
+
+pub returns-in_err-third : goal.returns-in_err-third
+returns-in_err-third c =
+    let a = c.args in
+    let f = c.ranges in
+    c.from_residual-in_err-third.ensures
+    ∙ by_third a.p a.q a.r a.s _ (passed a.p a.q f.p f.q c.in_ok-first.ensures) _ (passed a.q a.r f.q f.r c.in_ok-second.ensures)
+    (passed a.r a.s f.r f.s c.in_err-third.ensures)
 
 pub sigma-requires : goal.sigma-requires
-sigma-requires c = (
-  small c.args.first c.in-By.is c.requires.0,
-  small c.args.second c.in-By-second.is c.requires.1,
-  small c.args.third c.in-By-third.is c.requires.2,
-)
+sigma-requires c =
+    let a = c.args in
+    let f = c.ranges in
+    let first = passed a.p a.q f.p f.q c.in_ok-first.ensures in
+    let second = passed a.q a.r f.q f.r c.in_ok-second.ensures in
+    let third = passed a.r a.s f.r f.s c.in_ok-third.ensures in (
+      rw (passed_on a.p a.q _ first) (by_told a.p a.q _ first).small,
+      rw (passed_on a.q a.r _ second) (by_told a.q a.r _ second).small,
+      rw (passed_on a.r a.s _ third) (by_told a.r a.s _ third).small,
+    )
 
 pub returns : goal.returns
 returns c =
     let a = c.args in
-    by_all a.first a.second a.third c.in-By.is
-    c.in-By-second.is c.in-By-third.is
-    c.sigma.ensures.0
+    let f = c.ranges in
+    let first = passed a.p a.q f.p f.q c.in_ok-first.ensures in
+    let second = passed a.q a.r f.q f.r c.in_ok-second.ensures in
+    let third = passed a.r a.s f.r f.s c.in_ok-third.ensures in
+    ap Some (rw (passed_on a.p a.q _ first, passed_on a.q a.r _ second, passed_on a.r a.s _ third) at c.sigma.ensures.0)
+    ∙ by_all a.p a.q a.r a.s _ first _ second _ third

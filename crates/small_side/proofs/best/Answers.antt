@@ -12,16 +12,16 @@ down-key-requires c =
     let b = c.packed-b in
     let x = c.packed-c in
     let d = c.packed-d in
-    let p = c.better-p in
-    let q = c.worse-q in
-    let r = c.better-r in
-    let s = c.worse-s in
-    let u = c.worse-u in
-    let v = c.better-v in
-    let w1 = c.better in
-    let w2 = c.better-2 in
-    let w3 = c.worse in
-    let w4 = c.worse-2 in (
+    let p = c.max-p in
+    let q = c.min-q in
+    let r = c.max-r in
+    let s = c.min-s in
+    let u = c.min-u in
+    let v = c.max-v in
+    let w1 = c.max in
+    let w2 = c.max-2 in
+    let w3 = c.min in
+    let w4 = c.min-2 in (
       sorted a.result b.result x.result d.result p.result q.result r.result s.result u.result v.result w1.result w2.result w3.result w4.result
           p.ensures q.ensures r.ensures s.ensures u.ensures v.ensures w1.ensures w2.ensures w3.ensures w4.ensures,
       c.requires.2,
@@ -35,16 +35,16 @@ returns c =
     let b = c.packed-b in
     let x = c.packed-c in
     let d = c.packed-d in
-    let p = c.better-p in
-    let q = c.worse-q in
-    let r = c.better-r in
-    let s = c.worse-s in
-    let u = c.worse-u in
-    let v = c.better-v in
-    let w1 = c.better in
-    let w2 = c.better-2 in
-    let w3 = c.worse in
-    let w4 = c.worse-2 in
+    let p = c.max-p in
+    let q = c.min-q in
+    let r = c.max-r in
+    let s = c.min-s in
+    let u = c.min-u in
+    let v = c.max-v in
+    let w1 = c.max in
+    let w2 = c.max-2 in
+    let w3 = c.min in
+    let w4 = c.min-2 in
     finds ks vs (four w1.result w2.result w3.result w4.result) c.args.minimum.0 c.down-key.result c.counted.result
     (λ t. sorted-held a.result b.result x.result d.result p.result q.result r.result s.result u.result v.result w1.result w2.result w3.result w4.result
     p.ensures q.ensures r.ensures s.ensures u.ensures v.ensures w1.ensures w2.ensures w3.ensures w4.ensures t

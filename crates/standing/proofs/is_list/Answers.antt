@@ -1,9 +1,7 @@
--- Whether nothing is left of the words.
-use Rattle.std.proofs.Common.{ap}
-use Rattle.standing.specs.declared.Measured.{Measured}
-use Rattle.standing.specs.Internal.{measured}
+-- Whether there are calls to count.
+use Rattle.std.proofs.Common.{ap, ◌∙◌, is_some}
+use Rattle.standing.proofs.Reading.{list_is}
 use Rattle.standing.proofs.is_list.Goals as goal
 
 pub returns : goal.returns
-unfolding measured
-returns c = ap (λ (m : Measured). m.whole) c.measure-m.ensures
+returns c = c.is_some.ensures ∙ ap is_some c.measure.ensures ∙ list_is c.args.words.now

@@ -1,10 +1,7 @@
--- So many calls came before the place, and what is left decides the rest.
-use Rattle.std.proofs.Common.{length, ◌-◌}
+-- So many calls came before, and what is left decides the rest.
+use Rattle.std.proofs.Common.{◌*◌}
 use Rattle.standing.proofs.Reading.{Upto}
 use Rattle.standing.proofs.measure.Given as goal
 
-abbrev pub invariant-loop-at : goal.invariant-loop-at
-invariant-loop-at l = Upto l.words l.calls l.at
-
-abbrev pub decreases-loop-at : goal.decreases-loop-at
-decreases-loop-at l = length l.words - l.at
+abbrev pub invariant-loop-k : goal.invariant-loop-k
+invariant-loop-k l = Upto l.words l.k (3 * l.k)

@@ -18,18 +18,20 @@ one_more l m s t i e f =
     f ∙ ap (λ (u : Seen). look_of u i (get_or l i none) m) e ∙ ap (seen_in l m) (sym (add-one i))
 
 pub loop-i-init : goal.loop-i-init
-loop-i-init c = record { inside = omega arith; seen = at_start c.args.list.now c.args.m }
+loop-i-init c = at_start c.args.list.now c.args.m
 
 pub look_at-s-requires : goal.look_at-s-requires
 look_at-s-requires c =
-    let e = c.loop-i.invariant.seen in
     let le : c.loop-i.s.above ≤ c.loop-i.i =
-    subst (λ (s : Seen). s.above ≤ c.loop-i.i) (sym e) (above-le c.args.list.now c.args.m c.loop-i.i)
+    subst (λ (s : Seen). s.above ≤ c.loop-i.i) (sym c.loop-i.invariant) (above-le c.args.list.now c.args.m c.loop-i.i)
     in
     (le, omega arith)
 
 pub loop-i-preserved : goal.loop-i-preserved
-loop-i-preserved c = record {
-  inside = omega arith;
-  seen = one_more c.args.list.now c.args.m c.loop-i.s c.look_at-s.result c.loop-i.i c.loop-i.invariant.seen c.look_at-s.ensures;
-}
+loop-i-preserved c =
+    one_more c.args.list.now c.args.m c.loop-i.s c.look_at-s.result c.loop-i.i c.loop-i.invariant c.look_at-s.ensures
+
+pub returns : goal.returns
+returns c =
+    let end : c.loop-i.i ≡ c.args.upto = omega arith in
+    c.loop-i.invariant ∙ ap (seen_in c.args.list.now c.args.m) end

@@ -1,58 +1,65 @@
 -- The plan does what the call is to do (`works` of `standing_rules`), and `shift` does what the plan says.
-use Rattle.std.proofs.Common.{◌≡◌, ◌<◌, sym, ap, subst, ◌∙◌, ℕ, Bool, List, length, arith, min, leb}
+use Rattle.std.proofs.Common.{rules, ◌≡◌, ◌≤◌, ◌<◌, Option, Some, None, IfSome, is_some, refl, sym, ap, subst, ◌∙◌, ℕ, Bool, Ok, Err, List, length, arith, min, leb}
 use Rattle.standing_rules.specs.declared.Maker.{Maker}
-use Rattle.standing_rules.specs.declared.Asked.{Asked}
 use Rattle.standing_rules.specs.declared.Seen.{Seen}
-use Rattle.standing_rules.specs.declared.Plan.{Plan}
-use Rattle.standing_rules.specs.Calls.{standing, call_of, wrong}
-use Rattle.standing_rules.specs.Internal.{seen_in, record_of, judged, planned, shifted}
-use Rattle.standing_rules.proofs.Seeing.{some_seen}
+use Rattle.standing_rules.specs.declared.Call.{Call}
+use Rattle.standing_rules.specs.declared.CallError.{CallError}
+use Rattle.standing_rules.specs.declared.CallError.TheVariants.{WrongRecords, WrongMaker, EveryRecordUsed}
+use Rattle.standing_rules.specs.Calls.{standing, wrong, answer_by, number_of}
+use Rattle.standing_rules.specs.Internal.{seen_in, record_of, judged, Plan, plan_by, planned, shifted}
+use Rattle.standing_rules.proofs.Seeing.{place_seen}
 use Rattle.standing_rules.proofs.Working.{PlanDoesCall, works, answered}
 use Rattle.standing.proofs.work.Goals as goal
-use Rattle.standing.proofs.work.Goals.{After-decide-p}
 
-does_call : (l : List Maker) (count n : ℕ) (a : Asked) (bad : Bool) (m : Maker) (s : Seen) (p : Plan)
-    → n ≡ min count (length l) → m ≡ record_of (call_of a) → s ≡ seen_in l m n → bad ≡ wrong (standing l count)
-    → p ≡ planned (call_of a) (judged (call_of a) bad s.present (leb (length l) count)) count s
-    → PlanDoesCall l count (call_of a) p
-does_call l count n a bad m s p n_is m_is s_is bad_is p_is =
-    let call = call_of a in
+does_call : (l : List Maker) (count n : ℕ) (call : Call) (bad : Bool) (m : Maker) (s : Seen) (p : Plan)
+    → n ≡ min count (length l) → m ≡ record_of call → s ≡ seen_in l m n → bad ≡ wrong (standing l count)
+    → p ≡ planned call (judged call bad (is_some s.place) (leb (length l) count)) count s
+    → PlanDoesCall l count call p
+does_call l count n call bad m s p n_is m_is s_is bad_is p_is =
     let q : s ≡ seen_in l (record_of call) (min count (length l)) = s_is ∙ (λ i. seen_in l (m_is i) (n_is i)) in
-    let e : p ≡ planned call (judged call (wrong (standing l count)) (seen_in l (record_of call) (min count (length l))).present (leb (length l) count)) count (seen_in l (record_of call) (min count (length l))) =
-    p_is ∙ (λ i. planned call (judged call (bad_is i) (q i).present (leb (length l) count)) count (q i))
+    let e : p ≡ planned call (judged call (wrong (standing l count)) (is_some (seen_in l (record_of call) (min count (length l))).place) (leb (length l) count)) count (seen_in l (record_of call) (min count (length l))) =
+    p_is ∙ (λ i. planned call (judged call (bad_is i) (is_some (q i).place) (leb (length l) count)) count (q i))
     in
     subst (λ (r : Plan). PlanDoesCall l count call r) (sym e) (works l count call)
 
-pub decide-p-requires : goal.decide-p-requires
-decide-p-requires c h =
-    let e = c.scan-seen.ensures.0 in
-    let k = some_seen c.args.list.now c.record_of-m.result c.lesser-n.result (sym (ap (λ (s : Seen). s.present) e) ∙ h) in
-    omega (arith, k, c.lesser-n.ensures)
+-- no refusal's number is 0
+refused : (error : CallError) → number_of error ≡ 0 → ⊥
+refused WrongRecords e = omega (arith, e)
+refused WrongMaker e = omega (arith, e)
+refused EveryRecordUsed e = omega (arith, e)
 
-pub returns-then-p-ne0 : goal.returns-then-p-ne0
-returns-then-p-ne0 c =
+within : (o : Option ℕ) (n k : ℕ) → n ≤ k → IfSome o (λ at. at < n) → IfSome o (λ at. 0 < k)
+within None n k le h = tt
+within (Some at) n k le h = omega (arith, le, h)
+
+pub decide-requires : goal.decide-requires
+decide-requires c =
     let l = c.args.list.now in
-    let call = call_of c.args.asked in
-    let w = does_call l c.args.count c.lesser-n.result c.args.asked c.args.bad c.record_of-m.result c.scan-seen.result c.decide-p.result c.lesser-n.ensures c.record_of-m.ensures c.scan-seen.ensures.0 c.requires c.decide-p.ensures in
-    (answered l c.args.count call c.decide-p.result w, c.scan-seen.ensures.1 ∙ w.kept c.if-p-ne0.true)
+    let k = place_seen l c.record_of-m.result c.min.result in
+    within c.scan-seen.result.place c.min.result c.args.count (omega (arith, c.min.ensures)) (subst (λ (s : Seen). IfSome s.place (λ at. at < c.min.result)) (sym c.scan-seen.ensures) k)
+
+pub returns-in_err-p : goal.returns-in_err-p
+returns-in_err-p c =
+    let l = c.args.list.now in
+    let a = c.args in
+    let error = c.in_err-p.field-0.0 in
+    let same : c.from_residual.result ≡ Err error = search rules in
+    let w = does_call l a.count c.min.result a.call a.bad c.record_of-m.result c.scan-seen.result (plan_by a.count (Err error)) c.min.ensures c.record_of-m.ensures c.scan-seen.ensures c.requires c.in_err-p.ensures in
+    (ap (answer_by a.count) same ∙ answered l a.count a.call (plan_by a.count (Err error)) w, w.kept (refused error))
 
 pub shift-requires : goal.shift-requires
 shift-requires c =
-    let l = c.args.list.now in
-    let p = c.decide-p.result in
-    let w = does_call l c.args.count c.lesser-n.result c.args.asked c.args.bad c.record_of-m.result c.scan-seen.result p c.lesser-n.ensures c.record_of-m.ensures c.scan-seen.ensures.0 c.requires c.decide-p.ensures in
-    let o = w.moved c.if-p-ne0.false in
-    let e = c.scan-seen.ensures.1 in
-    (subst (λ (z : List Maker). p.from < length z) (sym e) o.from_there, subst (λ (z : List Maker). p.to < length z) (sym e) o.to_there)
+    let a = c.args in
+    let p = c.in_ok-p.p in
+    let w = does_call a.list.now a.count c.min.result a.call a.bad c.record_of-m.result c.scan-seen.result (plan_by a.count (Ok p)) c.min.ensures c.record_of-m.ensures c.scan-seen.ensures c.requires c.in_ok-p.ensures in
+    let o = w.moved refl in
+    (o.from_there, o.to_there)
 
 pub returns : goal.returns
 returns c =
-    let l = c.args.list.now in
-    let call = call_of c.args.asked in
-    let p = c.decide-p.result in
-    let w = does_call l c.args.count c.lesser-n.result c.args.asked c.args.bad c.record_of-m.result c.scan-seen.result p c.lesser-n.ensures c.record_of-m.ensures c.scan-seen.ensures.0 c.requires c.decide-p.ensures in
-    let o = w.moved c.if-p-ne0.false in
-    let e : c.shift.new.list ≡ shifted l p.from p.to (record_of call) =
-    c.shift.ensures ∙ (λ i. shifted (c.scan-seen.ensures.1 i) p.from p.to (c.record_of-m.ensures i))
-    in
-    (answered l c.args.count call p w, e ∙ o.moves)
+    let a = c.args in
+    let l = a.list.now in
+    let p = c.in_ok-p.p in
+    let w = does_call l a.count c.min.result a.call a.bad c.record_of-m.result c.scan-seen.result (plan_by a.count (Ok p)) c.min.ensures c.record_of-m.ensures c.scan-seen.ensures c.requires c.in_ok-p.ensures in
+    let e : c.shift.new.list ≡ shifted l p.from p.to (record_of a.call) = c.shift.ensures ∙ ap (shifted l p.from p.to) c.record_of-m.ensures in
+    (answered l a.count a.call (plan_by a.count (Ok p)) w, e ∙ (w.moved refl).moves)

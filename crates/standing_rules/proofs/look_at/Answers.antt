@@ -1,5 +1,4 @@
 -- `standing_rules::look_at` meets its contract: `look_of` by whether the record is the maker's, and whether it ranks above.
-use borrow.Author.Rules.{rules}
 use borrow.Author.Tests.{eq-eqb, ne_eqb}
 use Rattle.standing_rules.specs.Internal.{look_of}
 use Rattle.standing_rules.proofs.look_at.Goals as goal

@@ -4,7 +4,6 @@ use native.Mathlib.Omega.{arith}
 use mathlib.Core.Path.{sym, ap, ◌∙◌}
 use lib.Dec.{leb}
 use Rattle.strike.proofs.Squares.{square_is, doubled_most}
-use borrow.Author.Rules.{rules}
 use Rattle.strike.proofs.half_below.Goals as goal
 
 pub overflow_mul-result : goal.overflow_mul-result

@@ -1,6 +1,5 @@
 -- The four tests, joined.
 use Rattle.rules.specs.Strikes.{good_strike}
-use borrow.Author.Rules.{rules}
 use Rattle.strike.proofs.is_good.Goals as goal
 
 pub returns : goal.returns

@@ -3,7 +3,6 @@ use Prim.Native.Nat.{ℕ, ◌*◌}
 use native.Mathlib.Omega.{arith}
 use mathlib.Core.Path.{sym, ap}
 use Rattle.strike.proofs.Squares.{square_is, product_most, product_square_most, square_most}
-use borrow.Author.Rules.{rules}
 use Rattle.strike.proofs.square.Goals as goal
 
 pub overflow_mul-product : goal.overflow_mul-product

@@ -1,6 +1,5 @@
 -- The nearest step is the product rounded.
 use Rattle.strike.proofs.Rounding.{widest_is}
-use borrow.Author.Rules.{rules}
 use Rattle.strike.proofs.widest.Goals as goal
 
 pub returns : goal.returns

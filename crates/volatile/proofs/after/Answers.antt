@@ -1,28 +1,32 @@
 -- Each answer by its tests.
-use mathlib.Core.Path.{sym, ◌∙◌}
-use Rattle.volatile.proofs.Steps.{joined, ended, goes_on, begun, stays_out}
+use mathlib.Core.Path.{◌≡◌, refl, ◌∙◌}
+use mathlib.Core.Bool.{true, false}
+use borrow.Author.Tests.{lt-ltb, le-ltb, lt-leb, le-leb}
+use Rattle.volatile.specs.Internal.{ends}
+use Rattle.volatile.proofs.Steps.{none_after, ended, goes_on}
 use Rattle.volatile.proofs.after.Goals as goal
+use Rattle.volatile.proofs.after.Goals.{else-period-day-via-then-period-day+else-sigma-period, else-period-day-via-else-period-day}
 
-pub returns-then-both : goal.returns-then-both
-returns-then-both c =
+pub returns-in_default : goal.returns-in_default
+returns-in_default c =
     let a = c.args in
-    ended a.p a.day a.sigma a.threshold a.sum c.if-p.true
-    (joined a.p a.day a.sigma a.threshold a.sum _ _ _ _ c.both.ensures
-    c.is_before.ensures c.at_most.ensures c.if-both.true)
+    rw c.in_default.is (c.begun.ensures ∙ none_after a.day a.sigma a.threshold a.sum)
 
-pub returns-then-p : goal.returns-then-p
-returns-then-p c =
+pub returns-then-sigma-period : goal.returns-then-sigma-period
+returns-then-sigma-period c =
     let a = c.args in
-    goes_on a.p a.day a.sigma a.threshold a.sum c.if-p.true
-    (joined a.p a.day a.sigma a.threshold a.sum _ _ _ _ c.both.ensures
-    c.is_before.ensures c.at_most.ensures c.if-both.false)
-
-pub returns-then-at_most : goal.returns-then-at_most
-returns-then-at_most c =
-    let a = c.args in
-    begun a.p a.day a.sigma a.threshold a.sum c.if-p.false (sym c.at_most-2.ensures ∙ c.if-at_most.true)
+    let p = c.in-Some.period in
+    let e : ends p a.day a.sigma ≡ true = rw (lt-ltb p.first a.day c.if-period-day.true, le-leb a.sigma p.average c.if-sigma-period.true) refl in
+    rw c.in-Some.is (ended p a.day a.sigma a.threshold a.sum e)
 
 pub returns : goal.returns
 returns c =
     let a = c.args in
-    stays_out a.p a.day a.sigma a.threshold a.sum c.if-p.false (sym c.at_most-2.ensures ∙ c.if-at_most.false)
+    let p = c.in-Some.period in
+    let e : ends p a.day a.sigma ≡ false =
+    elim c.else-period-day.branch [
+      | else-period-day-via-then-period-day+else-sigma-period w ↦
+          rw (lt-ltb p.first a.day w.if-period-day.true, lt-leb a.sigma p.average w.if-sigma-period.false) refl
+      | else-period-day-via-else-period-day w ↦ rw (le-ltb p.first a.day w.if-period-day.false) refl
+    ] in
+    rw c.in-Some.is (goes_on p a.day a.sigma a.threshold a.sum e)

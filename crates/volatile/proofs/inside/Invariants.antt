@@ -9,7 +9,4 @@ use Rattle.volatile.proofs.inside.Given as goal
 
 abbrev pub invariant-loop-i : goal.invariant-loop-i
 invariant-loop-i l =
-    (l.i ≤ length l.prices - 1) × Represents l.prices l.threshold l.i l.state × (early l.state.phase ≡ false)
-
-abbrev pub decreases-loop-i : goal.decreases-loop-i
-decreases-loop-i l = length l.prices - l.i
+    (l.i - 1 ≤ length l.prices - 1) × Represents l.prices l.threshold (l.i - 1) l.state × (early l.state.phase ≡ false)

@@ -1,13 +1,15 @@
--- A word below 2 ^ 31 stays as it is (`low`); from there on it represents a negative price (`high`).
-use borrow.Author.Rules.{rules}
-use Rattle.words.proofs.Complement.{low, high_fits, high}
+-- The cast word, read back, is the cast word (`of_z-to_z`), and that is the price (`to_z-is`).
+use mathlib.Core.Path.{ap, ◌∙◌}
+use mir.Syntax.{w32}
+use mir.Val.{to_z, of_z}
+use mir.Facts.{of_z-to_z}
+use Rattle.rules.specs.Units.{steps}
+use Rattle.words.proofs.Complement.{to_z-is}
 use Rattle.words.proofs.to_steps.Goals as goal
 
-pub returns-then-w-lt2147483648 : goal.returns-then-w-lt2147483648
-returns-then-w-lt2147483648 c = low c.args.w c.if-w-lt2147483648.true
-
-pub overflow_sub-result : goal.overflow_sub-result
-overflow_sub-result c = high_fits c.args.w c.if-w-lt2147483648.false
-
 pub returns : goal.returns
-returns c = high c.args.w c.if-w-lt2147483648.false
+returns c =
+    let w = c.args.w in
+    ap (λ z. steps (to_z w32 (of_z w32 z))) c.cast_signed.ensures
+    ∙ ap (λ n. steps (to_z w32 n)) (of_z-to_z c.ranges.w)
+    ∙ ap steps (to_z-is w)

@@ -1,7 +1,7 @@
 -- With none open 7; else the quantum is forgotten.
+use Rattle.std.proofs.Common.{Err, Ok}
 use mathlib.Core.Path.{subst, sym}
 use borrow.Author.Tests.{not-true, not-false}
-use Rattle.rules.specs.declared.Answer.TheVariants.{Accepted, Refused}
 use Rattle.rules.specs.declared.Refusal.TheVariants.{NoQuantumOpen}
 use Rattle.rules.specs.Answers.{accepted, done}
 use Rattle.rules.specs.Calls.{Drop}
@@ -16,10 +16,10 @@ use Rattle.month.proofs.Month.drop.Goals as goal
 pub returns-then-not-self : goal.returns-then-not-self
 returns-then-not-self c =
     let m = c.args.self in
-    handed m Drop c.refused.result m (Refused NoQuantumOpen) c.refused.ensures (drop_idle m (not-true _ c.if-not-self.true))
+    handed m Drop c.refused.result m (Err NoQuantumOpen) c.refused.ensures (drop_idle m (not-true _ c.if-not-self.true))
 
 pub returns : goal.returns
 returns c =
     let m = c.args.self in
-    handed m Drop c.accepted.result _ Accepted c.accepted.ensures
+    handed m Drop c.accepted.result _ (Ok tt) c.accepted.ensures
     (subst (λ (n : Month). Answered m Drop (counted n) (accepted done)) (sym c.without_quantum.ensures) (drop_done m (not-false _ c.if-not-self.false)))

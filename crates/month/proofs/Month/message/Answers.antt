@@ -1,5 +1,5 @@
 -- What the quantum answers.
-use Rattle.rules.specs.declared.Answer.TheVariants.{Accepted}
+use Rattle.std.proofs.Common.{Ok}
 use Rattle.rules.specs.Calls.{Message}
 use Rattle.month.proofs.Answers.{handed}
 use Rattle.month.proofs.Fields.{held}
@@ -10,15 +10,15 @@ use Rattle.month.proofs.Month.message.Goals as goal
 pub message-sent-requires : goal.message-sent-requires
 message-sent-requires c = held c.args.self c.requires
 
-pub returns-in-Accepted : goal.returns-in-Accepted
-returns-in-Accepted c =
+pub returns-in-Ok : goal.returns-in-Ok
+returns-in-Ok c =
     let m = c.args.self in
-    handed m (Message c.args.start.now c.args.message.now) c.accepted.result _ Accepted c.accepted.ensures
+    handed m (Message c.args.start.now c.args.message.now) c.accepted.result _ (Ok tt) c.accepted.ensures
     (message_done m c.args.start.now c.args.message.now c.message-sent.result c.message-sent.ensures c.further-count.result c.further-count.ensures
-    c.in-Accepted.is)
+    c.in-Ok.is)
 
-pub returns-in-Refused : goal.returns-in-Refused
-returns-in-Refused c =
+pub returns-in-Err : goal.returns-in-Err
+returns-in-Err c =
     let m = c.args.self in
     handed m (Message c.args.start.now c.args.message.now) c.refused.result m _ c.refused.ensures
-    (message_refused m c.args.start.now c.args.message.now c.message-sent.result c.message-sent.ensures _ c.in-Refused.is)
+    (message_refused m c.args.start.now c.args.message.now c.message-sent.result c.message-sent.ensures _ c.in-Err.is)

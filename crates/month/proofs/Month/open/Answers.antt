@@ -9,17 +9,17 @@ use Rattle.month.proofs.Month.open.Goals as goal
 
 pub open_row-requires : goal.open_row-requires
 open_row-requires c =
-    let was_read : ReadAs c.args.opening.spread c.args.words.now c.in-Read.row = read_as _ _ _ (ap shown_row (sym c.in-Read.is) ∙ c.read-read.ensures) in
+    let was_read : ReadAs c.args.opening.spread c.args.words.now c.in-Ok.row = read_as _ _ _ (ap shown_row (sym c.in-Ok.is) ∙ c.read-read.ensures) in
     (c.requires, (was_read).good)
 
-pub returns-in-Read : goal.returns-in-Read
-returns-in-Read c =
-    let was_read : ReadAs c.args.opening.spread c.args.words.now c.in-Read.row = read_as _ _ _ (ap shown_row (sym c.in-Read.is) ∙ c.read-read.ensures) in
+pub returns-in-Ok : goal.returns-in-Ok
+returns-in-Ok c =
+    let was_read : ReadAs c.args.opening.spread c.args.words.now c.in-Ok.row = read_as _ _ _ (ap shown_row (sym c.in-Ok.is) ∙ c.read-read.ensures) in
     let r = was_read in
     c.open_row.ensures c.args.words.now r.seven r.is
 
-pub returns-in-Refused : goal.returns-in-Refused
-returns-in-Refused c =
+pub returns-in-Err : goal.returns-in-Err
+returns-in-Err c =
     let a = c.args in
     handed a.self (Open a.words.now a.day a.opening) c.refused.result a.self _ c.refused.ensures
-    (open_unread a.self a.words.now a.day a.opening _ (ap shown_row (sym c.in-Refused.is) ∙ c.read-read.ensures))
+    (open_unread a.self a.words.now a.day a.opening _ (ap shown_row (sym c.in-Err.is) ∙ c.read-read.ensures))

@@ -6,7 +6,7 @@ use borrow.Author.Rules.{rules}
 use Rattle.month.proofs.Month.report.Goals as goal
 
 pub fee-fee-requires : goal.fee-fee-requires
-fee-fee-requires c = cells_good c.args.self c.requires
+fee-fee-requires c = record { readable = search rules; good = record { cells = c.args.self.cells; is = refl; good = cells_good c.args.self c.requires } }
 
 pub live-orders-requires : goal.live-orders-requires
 live-orders-requires c = quantum_reached c.args.self c.requires
@@ -30,5 +30,5 @@ returns c =
             bid_is = c.best_bid-bid.ensures;
             ask_is = c.best_ask-ask.ensures;
           })
-          c.failures-failures.ensures c.fee-fee.ensures,
+          (c.failures-failures.ensures m.cells refl) (c.fee-fee.ensures m.cells refl),
     )

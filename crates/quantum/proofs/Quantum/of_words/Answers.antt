@@ -11,6 +11,6 @@ returns c =
     record {
       duty = c.duty_in-duty.ensures q.duty (duty-part ws q e) i;
       clock = c.clock_in-clock.ensures q.clock (clock-part ws q e) i;
-      table = (c.copy.ensures ∙ table_part ws q e s) i;
-      notes = (c.copy-2.ensures ∙ notes-part ws q e s) i;
+      table = (c.copy_from_slice.ensures.after ∙ table_part ws q e s) i;
+      notes = (c.copy_from_slice-2.ensures.after ∙ notes-part ws q e s) i;
     }

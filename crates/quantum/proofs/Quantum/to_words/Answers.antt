@@ -5,29 +5,24 @@ use Rattle.quantum.proofs.Words.{room, room_four, quantum_laid}
 use borrow.Author.Rules.{rules}
 use Rattle.quantum.proofs.Quantum.to_words.Goals as goal
 
-pub copy-requires-3 : goal.copy-requires-3
-copy-requires-3 c =
+pub copy_from_slice-requires-3 : goal.copy_from_slice-requires-3
+copy_from_slice-requires-3 c =
     let table-size : length c.args.self.table ≡ 512 = search rules in
-    room c.args.words.now c.copy.new.to c.put_clock.new.words c.copy-2.new.to c.requires
-    (ap length c.copy.ensures) (ap length c.put_clock.ensures) (ap length c.copy-2.ensures)
+    room c.args.words.now c.copy_from_slice.new.self c.put_clock.new.words c.copy_from_slice-2.new.self c.requires
+    (ap length c.copy_from_slice.ensures.after) (ap length c.put_clock.ensures) (ap length c.copy_from_slice-2.ensures.after)
     ∙ sym (table-size)
 
-pub slice_bounds-copy-end-7 : goal.slice_bounds-copy-end-7
-slice_bounds-copy-end-7 c =
-    let notes-size : length c.args.self.notes ≡ 76 = search rules in
-    sym (notes-size)
-
-pub copy-requires-4 : goal.copy-requires-4
-copy-requires-4 c =
+pub copy_from_slice-requires-4 : goal.copy_from_slice-requires-4
+copy_from_slice-requires-4 c =
     let table-size : length c.args.self.table ≡ 512 = search rules in
     let notes-size : length c.args.self.notes ≡ 76 = search rules in
-    room_four c.args.words.now c.copy.new.to c.put_clock.new.words c.copy-2.new.to c.requires
-    (ap length c.copy.ensures) (ap length c.put_clock.ensures) (ap length c.copy-2.ensures)
-    c.copy-3.new.to (ap length c.copy-3.ensures ∙ table-size)
+    room_four c.args.words.now c.copy_from_slice.new.self c.put_clock.new.words c.copy_from_slice-2.new.self c.requires
+    (ap length c.copy_from_slice.ensures.after) (ap length c.put_clock.ensures) (ap length c.copy_from_slice-2.ensures.after)
+    c.copy_from_slice-3.new.self (ap length c.copy_from_slice-3.ensures.after ∙ table-size)
     ∙ sym (notes-size)
 
 pub returns : goal.returns
 returns c =
     let table-size : length c.args.self.table ≡ 512 = search rules in
-    quantum_laid c.args.words.now c.copy.new.to c.put_clock.new.words c.copy-2.new.to c.copy-3.new.to c.copy-4.new.to c.args.self c.requires (table-size)
-    c.copy.ensures c.put_clock.ensures c.copy-2.ensures c.copy-3.ensures c.copy-4.ensures
+    quantum_laid c.args.words.now c.copy_from_slice.new.self c.put_clock.new.words c.copy_from_slice-2.new.self c.copy_from_slice-3.new.self c.copy_from_slice-4.new.self c.args.self c.requires (table-size)
+    c.copy_from_slice.ensures.after c.put_clock.ensures c.copy_from_slice-2.ensures.after c.copy_from_slice-3.ensures.after c.copy_from_slice-4.ensures.after

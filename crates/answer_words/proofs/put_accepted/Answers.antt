@@ -1,8 +1,0 @@
--- Twenty zeros.
-use Rattle.answer_words.specs.Words.{answer_words}
-use borrow.Author.Rules.{rules}
-use Rattle.answer_words.proofs.put_accepted.Goals as goal
-
-pub returns : goal.returns
-unfolding answer_words
-returns c = c.copy.ensures

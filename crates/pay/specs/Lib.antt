@@ -1,0 +1,2 @@
+-- The cells that a month's fee is worked out from.
+pub mod Months

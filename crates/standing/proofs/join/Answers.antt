@@ -1,7 +1,0 @@
--- The three words say a join.
-use Rattle.standing_rules.specs.Calls.{call_of}
-use Rattle.standing.proofs.join.Goals as goal
-
-pub returns : goal.returns
-unfolding call_of
-returns c = c.apply.ensures

@@ -1,8 +1,0 @@
--- `low_600` meets its contract, by the test over the whole card.
-use mathlib.Core.Path.{◌∙◌}
-use borrow.Author.Rules.{rules}
-use Rattle.weights.proofs.Right.{right_low_600}
-use Rattle.weights.proofs.low_600.Goals as goal
-
-pub returns : goal.returns
-returns c = c.wide.ensures ∙ right_low_600 c.args.f c.requires
