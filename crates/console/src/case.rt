@@ -1,5 +1,5 @@
 // A case that a program is given: words, four bytes each, low byte first, and what follows them.
-ghost use Rattle.std.specs.Prelude.{◌≡◌, ◌*◌, ◌≤◌, ◌<◌, length, drop, take, map, [], IfOk, OnOk, IsOk, IsTrue, ◌↔◌, vec_len};
+ghost use Rattle.std.specs.Prelude.{◌≡◌, ◌*◌, ◌≤◌, ◌<◌, length, drop, take, map, [], IfOk, OnOk, IsOk, IsErr, IsTrue, ◌↔◌, vec_len};
 ghost use Rattle.rules.specs.Units.{steps};
 ghost use Rattle.rules.specs.Records.{word_at, signed_of};
 ghost use Rattle.words.specs.Bytes.{words_from};
@@ -74,6 +74,7 @@ impl<'a> Case<'a> {
     }
 
     pub fn price(&mut self) -> Result<Steps, CaseError>
+        ensures fits { IsOk result ↔ (4 ≤ length self.old.rest.now) }
         ensures value { IfOk result (λ p. p ≡ steps (signed_of (word_at self.old.rest.now 0))) }
         ensures behind { OnOk result (self.new.rest.now ≡ drop 4 self.old.rest.now) }
     {
@@ -82,6 +83,7 @@ impl<'a> Case<'a> {
 
     // A word that is 0 or 1.
     pub fn flag(&mut self) -> Result<bool, CaseError>
+        ensures fits { IsOk result ↔ ((4 ≤ length self.old.rest.now) × (word_at self.old.rest.now 0 ≤ 1)) }
         ensures value { IfOk result (λ b. IsTrue b ↔ (word_at self.old.rest.now 0 ≡ 1)) }
         ensures behind { OnOk result (self.new.rest.now ≡ drop 4 self.old.rest.now) }
     {
@@ -90,6 +92,7 @@ impl<'a> Case<'a> {
 
     // A word of at most so much.
     pub fn count(&mut self, most: usize) -> Result<usize, CaseError>
+        ensures fits { IsOk result ↔ ((4 ≤ length self.old.rest.now) × (word_at self.old.rest.now 0 ≤ most)) }
         ensures value { IfOk result (λ n. (n ≡ word_at self.old.rest.now 0) × (n ≤ most)) }
         ensures behind { OnOk result (self.new.rest.now ≡ drop 4 self.old.rest.now) }
     {
@@ -103,6 +106,7 @@ impl<'a> Case<'a> {
     // So many words.
     pub fn words(&mut self, n: usize) -> Result<Vec<u32>, CaseError>
         requires { n < 4294967296 }
+        ensures short { length self.old.rest.now < 4 * n → IsErr result }
         ensures value { IfOk result (λ words. words.items ≡ words_from self.old.rest.now 0 n) }
         ensures len { IfOk result (λ words. vec_len words ≡ n) }
         ensures behind { OnOk result (self.new.rest.now ≡ drop (4 * n) self.old.rest.now) }
@@ -117,6 +121,7 @@ impl<'a> Case<'a> {
     // So many prices.
     pub fn prices(&mut self, n: usize) -> Result<Vec<i32>, CaseError>
         requires { n < 4294967296 }
+        ensures short { length self.old.rest.now < 4 * n → IsErr result }
         ensures value { IfOk result (λ prices. prices.items ≡ prices_from self.old.rest.now 0 n) }
         ensures behind { OnOk result (self.new.rest.now ≡ drop (4 * n) self.old.rest.now) }
     {
