@@ -20,7 +20,7 @@ fn is_size(n: usize) -> bool
 fn are_quanta(strikes: &[[u32; 2]], l: u32) -> bool
     ensures { result ≡ every (good_quantum_of l) strikes.now }
 {
-    strikes.iter().all(|s| s[1] == l && s[0] <= l)
+    strikes.iter().all(|s| (s[1] == l) & (s[0] <= l))
 }
 
 fn are_shares(first: u32, second: u32) -> bool

@@ -21,6 +21,16 @@ pub fn refused_at(refusal: Refusal, place: u32) -> u64
     refused(u32::from(refusal)) + u64::from(place)
 }
 
+// Words into as many others. A loop and not std's `copy_from_slice`, for which the archive for C would ask for `memmove`.
+fn copy(from: &[u32], to: &mut [u32])
+    requires { length to.old ≡ length from.now }
+    ensures { to.new ≡ from.now }
+{
+    for i in 0..from.len() {
+        to[i] = from[i];
+    }
+}
+
 pub fn fill_words(words: &[u32], buffer: &mut [u32]) -> u64
     ensures { Fills (accepted words.now) buffer.old buffer.new result }
 {
@@ -28,7 +38,7 @@ pub fn fill_words(words: &[u32], buffer: &mut [u32]) -> u64
     if buffer.len() < n {
         return refused(16);
     }
-    buffer[..n].copy_from_slice(words);
+    copy(words, &mut buffer[..n]);
     n as u64
 }
 

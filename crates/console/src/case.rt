@@ -1,9 +1,11 @@
 // A case that a program is given: words, four bytes each, low byte first, and what follows them.
-ghost use Rattle.std.specs.Prelude.{◌≡◌, ◌*◌, ◌≤◌, ◌<◌, length, drop, take, map, [], IfOk, OnOk, IsOk, IsErr, IsTrue, ◌↔◌, vec_len};
+ghost use Rattle.std.specs.Prelude.{◌≡◌, ◌*◌, ◌≤◌, ◌<◌, length, drop, take, map, [], IfOk, OnOk, IsOk, IsErr, IsTrue, ◌↔◌, vec_len, Err};
 ghost use Rattle.rules.specs.Units.{steps};
 ghost use Rattle.rules.specs.Records.{word_at, signed_of};
 ghost use Rattle.words.specs.Bytes.{words_from};
 ghost use Rattle.console.specs.Reading.{prices_from};
+ghost use Rattle.console.specs.declared.case.CaseError.TheVariants.{Failed};
+ghost use Rattle.std.specs.declared.io.Error.{Error};
 
 use rules::Steps;
 use std::alloc::{AllocError, Global};
@@ -30,7 +32,9 @@ impl From<AllocError> for CaseError {
 
 impl CaseError {
     // The end of a program that runs one case: it says so where there was none.
-    pub fn report(self, rt: &impl Print) -> io::Result<()> {
+    pub fn report(self, rt: &impl Print) -> io::Result<()>
+        ensures { (e : Error) → self ≡ Failed e → result ≡ Err e }
+    {
         match self {
             CaseError::NoCase => println!(rt; "bad case"),
             CaseError::Failed(e) => Err(e),

@@ -6,8 +6,7 @@ use native.Mathlib.Omega.{arith}
 use mathlib.Core.Path.{◌≡◌, refl, sym, ap, subst, ◌∙◌}
 use mathlib.Core.List.{List, [], ◌∷◌, ◌++◌, append_assoc}
 use lib.ListN.{length, get_or, take, drop, set, replicate, length-append, length-set}
-use lib.Seq.{take-length, length-take-le, take_at, drop_at, drop-append-add, drop-drop, set_split}
-use borrow.Rule.Slice.PartMut.{mid_of, put_mid, same_len_mid}
+use lib.Seq.{take-length, length-take-le, take_at, drop_at, drop-append-add, drop-drop, set_split, paste, paste-suc, length-paste}
 use Rattle.fix_writer.specs.Internal.{laid, Laid}
 
 module _ (d : List ℕ) (at : ℕ) where
@@ -58,18 +57,26 @@ module _ (d : List ℕ) (at : ℕ) where
   pub three : {p q s e f g : List ℕ} {m n k : ℕ} → Laid d at p m e → Laid e m q n f → Laid f n s k g → Laid d at (p ++ (q ++ s)) k g
   three {p} {q} {s} a b c = named (append_assoc p q s) (join (join a b) c)
 
--- ---- a copy over a part
-pub copied : (d v w : List ℕ) (at k : ℕ) → at + length v ≤ length d → w ≡ v → k ≡ length v → length w ≡ length (mid_of at k d)
-    → Laid d at v (at + length v) (put_mid at k d w)
-copied d v w at k h e q m =
-    record {
-      fits = h;
-      place = refl;
-      bytes =
-          (λ i. take at d ++ (e i ++ drop (q i) (drop at d)))
-          ∙ ap (λ (l : List ℕ). take at d ++ (v ++ l)) (drop-drop (length v) at d);
-      size = same_len_mid at k d w m;
-    }
+-- ---- a copy, as the loop makes it
+module _ (d e : List ℕ) (at : ℕ) (v : List ℕ) (i : ℕ) (h : at + length v ≤ length d) where
+  pub copied_on : i < length v → e ≡ paste d at v i → set e (at + i) (get_or v i 0) ≡ paste d at v (i + 1)
+  copied_on k q =
+      ap (λ (l : List ℕ). set l (at + i) (get_or v i 0)) q
+      ∙ paste-suc d at v i 0 (omega arith) k
+      ∙ ap (paste d at v) (sym (add-one i))
+
+  pub copied_all : i ≡ length v → e ≡ paste d at v i → Laid d at v (at + length v) e
+  copied_all k q =
+      record {
+        fits = h;
+        place = refl;
+        bytes =
+            q
+            ∙ ap (paste d at v) k
+            ∙ ap (λ (l : List ℕ). take at d ++ l ++ drop (at + length v) d) (take-length v)
+            ∙ append_assoc (take at d) v (drop (at + length v) d);
+        size = ap length q ∙ length-paste d at v i (omega arith) (omega arith);
+      }
 
 -- ---- a piece laid before another that is there already
 module _ (d : List ℕ) (at end : ℕ) (head body e f : List ℕ) where

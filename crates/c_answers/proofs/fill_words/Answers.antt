@@ -15,4 +15,4 @@ pub returns : goal.returns
 returns c =
     let a = c.args in
     fills_whole a.words.now a.buffer.now _ _ c.if-buffer-n.false
-    (ap (λ (l : List ℕ). l ++ drop (length a.words.now) a.buffer.now) c.copy_from_slice.ensures.after) refl
+    (ap (λ (l : List ℕ). l ++ drop (length a.words.now) a.buffer.now) c.copy.ensures) refl
