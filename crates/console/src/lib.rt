@@ -16,7 +16,8 @@ use std::alloc::Global;
 use std::io;
 use std::io::{Input, Read};
 
-// Fills the lent bytes from a reader, as far as it gives any: the number of bytes that are put at the front.
+// Fills the lent bytes from a reader, as far as it gives any: the number of bytes that are put at the front. A `while`, since each read says
+// how far it came.
 fn fill(reader: &mut impl Read, bytes: &mut [u8]) -> usize
     ensures { result ≤ length bytes.new }
 {
@@ -39,7 +40,7 @@ pub fn read(rt: &impl Input, bytes: &mut [u8]) -> usize
     fill(&mut rt.reader(), bytes)
 }
 
-// The same, as far as so many bytes.
+// The same, as far as so many bytes. Memory for all of them is taken at once.
 pub fn input(rt: &impl Input, alloc: Global, most: u64) -> io::Result<Vec<u8>>
     ensures { IfOk result (λ bytes. vec_len bytes ≤ most) }
 {
